@@ -1,0 +1,75 @@
+//! The proved functions, as the static library exports them, behind safe functions.
+
+mod exported {
+    extern "C" {
+        pub fn intake_day(date: *const u8, date_len: usize) -> u64;
+        pub fn intake_code(test: u64) -> u64;
+        pub fn comparison_amount(field: *const u8, field_len: usize, precision: u64, places: u64, units: *mut i64) -> u64;
+        pub fn comparison_number(field: *const u8, field_len: usize, precision: u64, places: u64) -> u64;
+        pub fn comparison_digits(field: *const u8, field_len: usize, count: u64, value: *mut u64) -> u64;
+        pub fn comparison_date_time(field: *const u8, field_len: usize, day: *mut u64, second: *mut u64) -> u64;
+        pub fn comparison_shares_day(start: u64, end: u64, other_start: u64, other_end: u64) -> u64;
+    }
+}
+
+/// An answer of the host's interface: the refusal's number, or the value.
+fn unpacked(answer: u64) -> Result<u32, u32> {
+    match (answer >> 32) as u32 {
+        0 => Ok(answer as u32),
+        number => Err(number),
+    }
+}
+
+pub fn day(date: &[u8]) -> Result<u32, u32> {
+    unpacked(unsafe { exported::intake_day(date.as_ptr(), date.len()) })
+}
+
+pub fn code(test: u64) -> Result<u32, u32> {
+    unpacked(unsafe { exported::intake_code(test) })
+}
+
+/// The units of an amount; a refusal must leave what is lent as it was.
+pub fn amount(field: &[u8], precision: u64, places: u64) -> Option<i64> {
+    const UNTOUCHED: i64 = -0x5555_5555_5555;
+    let mut units = UNTOUCHED;
+    match unsafe { exported::comparison_amount(field.as_ptr(), field.len(), precision, places, &mut units) } {
+        0 => Some(units),
+        number => {
+            assert_eq!((number, units), (3, UNTOUCHED));
+            None
+        }
+    }
+}
+
+pub fn is_number(field: &[u8], precision: u64, places: u64) -> bool {
+    unsafe { exported::comparison_number(field.as_ptr(), field.len(), precision, places) == 1 }
+}
+
+/// The value of just `count` digits, or of 1 to 15 where `count` is 0.
+pub fn digits(field: &[u8], count: u64) -> Option<u64> {
+    const UNTOUCHED: u64 = 0x5555_5555_5555_5555;
+    let mut value = UNTOUCHED;
+    match unsafe { exported::comparison_digits(field.as_ptr(), field.len(), count, &mut value) } {
+        0 => Some(value),
+        number => {
+            assert_eq!((number, value), (3, UNTOUCHED));
+            None
+        }
+    }
+}
+
+pub fn date_time(field: &[u8]) -> Option<(u64, u64)> {
+    const UNTOUCHED: (u64, u64) = (u64::MAX, u64::MAX);
+    let (mut day, mut second) = UNTOUCHED;
+    match unsafe { exported::comparison_date_time(field.as_ptr(), field.len(), &mut day, &mut second) } {
+        0 => Some((day, second)),
+        number => {
+            assert_eq!((number, day, second), (3, UNTOUCHED.0, UNTOUCHED.1));
+            None
+        }
+    }
+}
+
+pub fn shares_day(one: (u64, u64), other: (u64, u64)) -> bool {
+    unsafe { exported::comparison_shares_day(one.0, one.1, other.0, other.1) == 1 }
+}

@@ -1,0 +1,4 @@
+pub mod Powers
+pub mod Shape
+pub mod Signs
+pub mod Laws

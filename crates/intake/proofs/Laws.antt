@@ -1,0 +1,38 @@
+-- Laws of the word in which the host gets an answer: its upper 32 bits are the number, its lower 32 bits the value.
+--     packed-number, packed-value    the two halves of the word, for a value that fits
+--     day-fits, code-fits            the values that the exported functions answer fit
+-- Assumes nothing.
+use mathlib.Core.Path.{_≡_, refl}
+use mathlib.Core.List.{List}
+use Prim.Native.Nat.{ℕ, _/_, _%_, _^_, _<_}
+use native.Mathlib.Omega.{arith}
+use Rattle.calendar.specs.declared.Day.{Day}
+use Rattle.calendar.specs.declared.Day.the-variants.{At, NotADate}
+use Rattle.calendar.specs.Calendar.{dayOf}
+use Rattle.calendar.proofs.Dates.{day-bound}
+use Rattle.codes.specs.declared.RejectionCode.{RejectionCode}
+use Rattle.codes.specs.declared.RejectionCode.the-variants.{Code, NotATest}
+use Rattle.codes.specs.Codes.{codeOf}
+use Rattle.codes.proofs.Laws.{code-range}
+use Rattle.intake.specs.Answers.{Answer, packed, dayAnswer, codeAnswer}
+
+module _ (a : Answer) (fits : a .value < 2 ^ 32) where
+  pub packed-number : packed a / 2 ^ 32 ≡ a .number
+  packed-number = omega arith
+
+  pub packed-value : packed a % 2 ^ 32 ≡ a .value
+  packed-value = omega arith
+
+pub day-fits : (date : List ℕ) → dayAnswer (dayOf date) .value < 2 ^ 32
+day-fits date = go (dayOf date) refl
+  where
+    go : (r : Day) → dayOf date ≡ r → dayAnswer r .value < 2 ^ 32
+    go (At day) e = omega (arith, day-bound date day e)
+    go NotADate e = omega arith
+
+pub code-fits : (test : ℕ) → codeAnswer (codeOf test) .value < 2 ^ 32
+code-fits test = go (codeOf test) refl
+  where
+    go : (r : RejectionCode) → codeOf test ≡ r → codeAnswer r .value < 2 ^ 32
+    go (Code code) e = omega (arith, code-range test code e .1)
+    go NotATest e = omega arith

@@ -1,0 +1,30 @@
+// What the host program calls, as host/intake.h declares it. An answer is the refusal's number times 2 ^ 32, and in the
+// lower 32 bits the line or the value asked for.
+ghost use mathlib.Core.Path.{_≡_};
+ghost use Rattle.calendar.specs.Calendar.{dayOf};
+ghost use Rattle.codes.specs.Codes.{codeOf};
+ghost use Rattle.intake.specs.Answers.{packed, dayAnswer, codeAnswer};
+use calendar::Day;
+use codes::RejectionCode;
+
+// The day of a date; 3 if it isn't one.
+#[no_mangle]
+pub extern "C" fn intake_day(date: &[u8]) -> u64
+    ensures { λ r. ⌜ r ≡ packed (dayAnswer (dayOf (now (date .entry)))) ⌝ }
+{
+    match calendar::day_of(date) {
+        Day::At(day) => day,
+        Day::NotADate => 3 * 4294967296,
+    }
+}
+
+// The rejection code of a test; 107 if it isn't one of Table 5-1 that document 01 lists.
+#[no_mangle]
+pub extern "C" fn intake_code(test: u64) -> u64
+    ensures { λ r. ⌜ r ≡ packed (codeAnswer (codeOf test)) ⌝ }
+{
+    match codes::code_of(test) {
+        RejectionCode::Code(code) => code,
+        RejectionCode::NotATest => 107 * 4294967296,
+    }
+}

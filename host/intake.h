@@ -1,0 +1,21 @@
+/* What the intake library offers a host program.
+ *
+ * Every answer is one word: the refusal's number in the upper 32 bits, 0 for none, and in the lower 32 bits the line,
+ * or the value asked for. An empty run of bytes may have a null pointer. No call keeps a pointer that it is given. */
+#ifndef INTAKE_H
+#define INTAKE_H
+
+#include <stddef.h>
+#include <stdint.h>
+
+/* The day number of a date YYYYMMDD of 2000 to 2099, day 0 being 20000101; refusal 3 if it isn't a date. */
+uint64_t intake_day(const uint8_t *date, size_t date_len);
+
+/* The A5.24 code of a Table 5-1 test; refusal 107 if the number isn't a test that is run. */
+uint64_t intake_code(uint64_t test);
+
+static inline uint32_t intake_number(uint64_t answer) { return (uint32_t)(answer >> 32); }
+
+static inline uint32_t intake_value(uint64_t answer) { return (uint32_t)answer; }
+
+#endif
