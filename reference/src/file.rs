@@ -408,7 +408,8 @@ impl RecordType {
 /// The number of a file's lines. The last line may lack its end; a last byte
 /// 10 opens no further line.
 pub fn line_count(file: &[u8]) -> usize {
-    let ended = file.iter().filter(|&&byte| byte == b'\n').count();
+    let count_ends = |bytes: &[u8]| bytes.iter().map(|&byte| u8::from(byte == b'\n')).sum::<u8>();
+    let ended: usize = file.chunks(255).map(|bytes| usize::from(count_ends(bytes))).sum();
     ended + usize::from(file.last().is_some_and(|&byte| byte != b'\n'))
 }
 
@@ -425,36 +426,45 @@ fn without_end(line: &[u8]) -> &[u8] {
     }
 }
 
-/// A record: its type and its fields, cut once.
+/// A record: its type and the places of its fields, cut once.
 #[derive(Clone, Copy)]
 pub struct Record<'records, 'file> {
     /// The type in field 3.
     pub record_type: RecordType,
-    fields: &'records [&'file [u8]],
+    line: &'file [u8],
+    ends: &'records [u32],
 }
 
 impl<'file> Record<'_, 'file> {
     /// The field of this number, counted from 1 as in Tables 4-2 to 4-10.
     pub fn field(&self, number: usize) -> &'file [u8] {
-        self.fields[number - 1]
+        let start = if number == 1 { 0 } else { self.ends[number - 2] as usize + 1 };
+        &self.line[start..self.ends[number - 1] as usize]
     }
 
     /// The fields with their rows of the type's table.
     pub fn described_fields(&self) -> impl Iterator<Item = (&'static Field, &'file [u8])> + '_ {
-        self.record_type.fields().iter().zip(self.fields.iter().copied())
+        let mut start = 0;
+        self.record_type.fields().iter().zip(self.ends).map(move |(description, &end)| {
+            let field = &self.line[start..end as usize];
+            start = end as usize + 1;
+            (description, field)
+        })
     }
 }
 
 /// The records of a file that passes test 2.
 pub struct Records<'file> {
-    heads: Vec<Head>,
-    fields: Vec<&'file [u8]>,
+    heads: Vec<Head<'file>>,
+    /// Where in their lines the fields end, record after record.
+    ends: Vec<u32>,
 }
 
-/// A record's type and the place of its first field.
-struct Head {
+/// A record's type, its line, and where the ends of its fields begin.
+struct Head<'file> {
     record_type: RecordType,
-    first_field: usize,
+    line: &'file [u8],
+    first_end: usize,
 }
 
 impl<'file> Records<'file> {
@@ -465,10 +475,10 @@ impl<'file> Records<'file> {
         if file.is_empty() {
             return Err(1);
         }
-        let lines_expected = line_count(file);
+        let line_count = line_count(file);
         let mut records = Records {
-            heads: Vec::with_capacity(lines_expected),
-            fields: Vec::with_capacity(lines_expected * LIKELY_FIELDS),
+            heads: Vec::with_capacity(line_count),
+            ends: Vec::with_capacity(line_count * LIKELY_FIELDS),
         };
         for (place, line) in lines(file).enumerate() {
             records.push(line).ok_or(place + 1)?;
@@ -481,14 +491,16 @@ impl<'file> Records<'file> {
         if !all_printable(line) {
             return None;
         }
-        let first_field = self.fields.len();
-        self.fields.extend(line.split(|&byte| byte == b',').take(MOST_FIELDS + 1));
-        let fields = &self.fields[first_field..];
-        let record_type = RecordType::of_code(fields.get(2)?)?;
-        if fields.len() != record_type.fields().len() {
+        let commas = Commas::of(line);
+        let (second, third) = (commas.place(1)?, commas.place(2).unwrap_or(line.len()));
+        let record_type = RecordType::of_code(&line[second + 1..third])?;
+        if commas.count + 1 != record_type.fields().len() {
             return None;
         }
-        self.heads.push(Head { record_type, first_field });
+        let first_end = self.ends.len();
+        self.ends.extend_from_slice(&commas.places[..commas.count]);
+        self.ends.push(line.len() as u32);
+        self.heads.push(Head { record_type, line, first_end });
         Some(())
     }
 
@@ -504,16 +516,43 @@ impl<'file> Records<'file> {
 
     /// The records in file order.
     pub fn iter(&self) -> impl Iterator<Item = Record<'_, 'file>> {
-        self.heads.iter().map(|head| {
-            let fields = &self.fields[head.first_field..];
-            let record_type = head.record_type;
-            Record { record_type, fields: &fields[..record_type.fields().len()] }
+        self.heads.iter().map(|&Head { record_type, line, first_end }| {
+            let ends = &self.ends[first_end..];
+            Record { record_type, line, ends: &ends[..record_type.fields().len()] }
         })
     }
 }
 
-/// "A record carries the places of its fields, at most 24."
-const MOST_FIELDS: usize = 24;
+/// The commas of a line: how many, and where the first of them are. No record
+/// has as many fields as there are places.
+struct Commas {
+    count: usize,
+    places: [u32; Commas::PLACES],
+}
+
+impl Commas {
+    /// A power of two above 24: "A record carries the places of its fields, at
+    /// most 24."
+    const PLACES: usize = 32;
+
+    /// Notes every place and keeps those of commas, without a branch, as
+    /// commas come at no foreseeable places.
+    fn of(line: &[u8]) -> Self {
+        let mut commas = Commas { count: 0, places: [0; Self::PLACES] };
+        for (place, &byte) in line.iter().enumerate() {
+            commas.places[commas.count % Self::PLACES] = place as u32;
+            commas.count += usize::from(byte == b',');
+        }
+        commas
+    }
+
+    /// The place of the comma of this number, from 0, if there is one and it
+    /// is kept.
+    fn place(&self, number: usize) -> Option<usize> {
+        let is_kept = number < self.count && self.count < Self::PLACES;
+        is_kept.then(|| self.places[number] as usize)
+    }
+}
 
 /// More fields than an average line has.
 const LIKELY_FIELDS: usize = 18;

@@ -241,10 +241,10 @@ fn archive_guarantee() {
 fn puzzles() {
     let mut checked = std::collections::BTreeMap::new();
     let mut booked = std::collections::BTreeMap::new();
-    for seed in 0..300 {
+    for seed in 0..120 {
         let mut generator = Generator::with_senders(seed, Style::Varied, &SENDERS[..2]);
         let distributors = generator.distributors();
-        let mut run = vec![Entry::default(); 60];
+        let mut run = vec![Entry::default(); 50];
         let mut used = 0;
         for _ in 0..40 {
             let file = generator.puzzle(&run[..used]);

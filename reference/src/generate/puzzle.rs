@@ -81,11 +81,11 @@ impl Generator {
         let periods = self.random.below(4);
         let one_time_charges = self.random.below(3).max(u64::from(periods == 0));
         for _ in 0..periods {
-            let item = self.item(kind::PERIOD, site, stored);
+            let item = self.item(draft, kind::PERIOD, site, stored);
             self.add_period(draft, &item);
         }
         for _ in 0..one_time_charges {
-            let item = self.item(kind::ONE_TIME_CHARGE, site, stored);
+            let item = self.item(draft, kind::ONE_TIME_CHARGE, site, stored);
             draft.records.push(one_time_charge(&item));
         }
     }
@@ -98,23 +98,34 @@ impl Generator {
 
     /// An original, a cancel of a stored entry that may differ in a little, or
     /// a cancel of whatever.
-    fn item(&mut self, wanted: u64, site: u64, stored: &[Entry]) -> Item {
+    fn item(&mut self, draft: &mut Draft, wanted: u64, site: u64, stored: &[Entry]) -> Item {
         let original = Item {
-            site: if self.random.percent(5) { self.random.between(1, SITES) } else { site },
+            site: if self.random.percent(2) { self.random.between(1, SITES) } else { site },
             days: self.some_days(),
             charge: self.random.below(4) as i64 * 100 - 100,
             usage: self.random.below(4) as i64 * 10_000 - 10_000,
             is_cancel: false,
             reference: None,
         };
-        let fitting: Vec<&Entry> =
-            stored.iter().filter(|entry| entry.kind == wanted && entry.site == site).collect();
+        let is_strict = self.random.percent(90);
+        let can_be_cancelled = |entry: &&Entry| {
+            entry.sender == draft.sender
+                && entry.commodity == draft.commodity as u64
+                && entry.is_live_or_held()
+                && !draft.cancelled.contains(&entry.record_id)
+        };
+        let fitting: Vec<&Entry> = stored
+            .iter()
+            .filter(|entry| entry.kind == wanted && entry.site == site)
+            .filter(|entry| !is_strict || can_be_cancelled(entry))
+            .collect();
         if fitting.is_empty() || self.random.percent(60) {
-            let is_cancel = self.random.percent(5);
-            let reference = self.random.percent(50).then(|| self.random.below(200));
+            let is_cancel = self.random.percent(3);
+            let reference = self.random.percent(50).then(|| self.random.below(400));
             return Item { is_cancel, reference: reference.filter(|_| is_cancel), ..original };
         }
         let named = fitting[self.random.place(fitting.len())];
+        draft.cancelled.push(named.record_id);
         let mut cancel = Item {
             site,
             days: named.period(),
@@ -175,7 +186,7 @@ impl Generator {
 
     /// Mostly the parent's site.
     fn child_site(&mut self, item: &Item) -> u64 {
-        if self.random.percent(2) {
+        if self.random.percent(1) {
             self.random.between(1, SITES)
         } else {
             item.site
@@ -184,7 +195,7 @@ impl Generator {
 
     /// Different Record IDs from a small range, and the Parent IDs.
     fn set_puzzle_ids(&mut self, draft: &mut Draft) {
-        let mut free: Vec<u64> = (0..200).collect();
+        let mut free: Vec<u64> = (0..400).collect();
         let mut nearest = [0; 9];
         for record in &mut draft.records {
             let record_id = free.swap_remove(self.random.place(free.len()));
