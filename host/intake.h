@@ -8,6 +8,11 @@
 #include <stddef.h>
 #include <stdint.h>
 
+/* Check: the first refusal of a file, in the order 104, 103, tests 2 to 38. The settings are the retailer's number and the
+ * distributor IDs, four digits each, one after the other. The number and the line of the failing record, counted from 1 (0 for
+ * numbers from 101); 0 and 0 when all tests pass. Needs about 1 MiB of stack. */
+uint64_t intake_check(uint64_t retailer, const uint8_t *distributors, size_t distributors_len, const uint8_t *file, size_t file_len);
+
 /* The day number of a date YYYYMMDD of 2000 to 2099, day 0 being 20000101; refusal 3 if it isn't a date. */
 uint64_t intake_day(const uint8_t *date, size_t date_len);
 

@@ -4,6 +4,7 @@ mod exported {
     extern "C" {
         pub fn intake_day(date: *const u8, date_len: usize) -> u64;
         pub fn intake_code(test: u64) -> u64;
+        pub fn intake_check(retailer: u64, distributors: *const u8, distributors_len: usize, file: *const u8, file_len: usize) -> u64;
         pub fn comparison_amount(field: *const u8, field_len: usize, precision: u64, places: u64, units: *mut i64) -> u64;
         pub fn comparison_number(field: *const u8, field_len: usize, precision: u64, places: u64) -> u64;
         pub fn comparison_digits(field: *const u8, field_len: usize, count: u64, value: *mut u64) -> u64;
@@ -26,6 +27,12 @@ pub fn day(date: &[u8]) -> Result<u32, u32> {
 
 pub fn code(test: u64) -> Result<u32, u32> {
     unpacked(unsafe { exported::intake_code(test) })
+}
+
+/// The number and line of Check.
+pub fn check(retailer: u64, distributors: &[u8], file: &[u8]) -> (u32, u32) {
+    let answer = unsafe { exported::intake_check(retailer, distributors.as_ptr(), distributors.len(), file.as_ptr(), file.len()) };
+    ((answer >> 32) as u32, answer as u32)
 }
 
 /// The units of an amount; a refusal must leave what is lent as it was.

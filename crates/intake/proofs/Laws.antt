@@ -1,6 +1,6 @@
 -- Laws of the word in which the host gets an answer: its upper 32 bits are the number, its lower 32 bits the value.
 --     packed-number, packed-value    the two halves of the word, for a value that fits
---     day-fits, code-fits            the values that the exported functions answer fit
+--     check-fits, day-fits, code-fits    the values that the exported functions answer fit
 -- Assumes nothing.
 use mathlib.Core.Path.{_≡_, refl}
 use mathlib.Core.List.{List}
@@ -14,7 +14,9 @@ use Rattle.codes.specs.declared.RejectionCode.{RejectionCode}
 use Rattle.codes.specs.declared.RejectionCode.the-variants.{Code, NotATest}
 use Rattle.codes.specs.Codes.{codeOf}
 use Rattle.codes.proofs.Laws.{code-range}
-use Rattle.intake.specs.Answers.{Answer, packed, dayAnswer, codeAnswer}
+use Rattle.validation.specs.Check.{checkOf}
+use Rattle.validation.proofs.Outcomes.{check-small}
+use Rattle.intake.specs.Answers.{Answer, packed, checkAnswer, dayAnswer, codeAnswer}
 
 module _ (a : Answer) (fits : a .value < 2 ^ 32) where
   pub packed-number : packed a / 2 ^ 32 ≡ a .number
@@ -22,6 +24,9 @@ module _ (a : Answer) (fits : a .value < 2 ^ 32) where
 
   pub packed-value : packed a % 2 ^ 32 ≡ a .value
   packed-value = omega arith
+
+pub check-fits : (retailer : ℕ) (distributors file : List ℕ) → checkAnswer (checkOf retailer distributors file) .value < 2 ^ 32
+check-fits retailer distributors file = omega (arith, check-small retailer distributors file .1)
 
 pub day-fits : (date : List ℕ) → dayAnswer (dayOf date) .value < 2 ^ 32
 day-fits date = go (dayOf date) refl

@@ -3,6 +3,7 @@
 use Prim.Native.Nat.{ℕ, _+_, _*_, _^_}
 use Rattle.calendar.specs.declared.Day.{Day}
 use Rattle.calendar.specs.declared.Day.the-variants.{At, NotADate}
+use Rattle.validation.specs.declared.Outcome.{Outcome}
 use Rattle.codes.specs.declared.RejectionCode.{RejectionCode}
 use Rattle.codes.specs.declared.RejectionCode.the-variants.{Code, NotATest}
 
@@ -13,6 +14,10 @@ pub record Answer : Type 0 where
 
 abbrev pub packed : Answer → ℕ
 packed a = a .number * 2 ^ 32 + a .value
+
+-- document 01, "Operations": Check "Returns number and line"
+abbrev pub checkAnswer : Outcome → Answer
+checkAnswer o = record { number = o .number; value = o .line }
 
 -- document 01, "Operations": "Day of a date. 3 if it isn't one."
 abbrev pub dayAnswer : Day → Answer

@@ -3,9 +3,19 @@
 ghost use mathlib.Core.Path.{_≡_};
 ghost use Rattle.calendar.specs.Calendar.{dayOf};
 ghost use Rattle.codes.specs.Codes.{codeOf};
-ghost use Rattle.intake.specs.Answers.{packed, dayAnswer, codeAnswer};
+ghost use Rattle.validation.specs.Check.{checkOf};
+ghost use Rattle.intake.specs.Answers.{packed, checkAnswer, dayAnswer, codeAnswer};
 use calendar::Day;
 use codes::RejectionCode;
+
+// Check: the first refusal of a file, as its number and line; 0 and 0 when all tests pass.
+#[no_mangle]
+pub extern "C" fn intake_check(retailer: u64, distributors: &[u8], file: &[u8]) -> u64
+    ensures { λ r. ⌜ r ≡ packed (checkAnswer (checkOf retailer (now (distributors .entry)) (now (file .entry)))) ⌝ }
+{
+    let outcome = validation::check(retailer, distributors, file);
+    outcome.number * 4294967296 + outcome.line
+}
 
 // The day of a date; 3 if it isn't one.
 #[no_mangle]

@@ -1,7 +1,4 @@
 -- A signed 64-bit number that is made of a magnitude m: below 2 ^ 63 the cast keeps it, and so does the difference from 0.
---     value-kept, values-kept    a value that is passed on as it is, and f of two such
---     abs-le, abs-fits           a signed number and its size
---     add-.., sum-..             a sum whose size is below 2 ^ 63
 -- Assumes nothing.
 use mathlib.Core.Path.{_≡_, refl, sym, ap, _∙_, subst}
 use mathlib.Core.Bool.{Bool, true, false, cond}

@@ -1,2 +1,4 @@
+pub mod Below
+pub mod Bytes
 pub mod First
 pub mod Written

@@ -1,0 +1,196 @@
+//! Fields: dates, date times, amounts, identifiers, shared days and rejection codes.
+
+use crate::inputs::{self, Random};
+use crate::tally::Tally;
+use compare::proved;
+use reference::{calendar, codes, fields, periods};
+
+/// The widths of Tables 4-2 to 4-10, and some that no table has.
+const WIDTHS: [(u64, u64); 22] = [
+    (15, 0),
+    (14, 4),
+    (11, 2),
+    (4, 0),
+    (3, 0),
+    (14, 9),
+    (13, 4),
+    (10, 4),
+    (2, 0),
+    (7, 6),
+    (12, 4),
+    (15, 6),
+    (9, 6),
+    (19, 12),
+    (9, 0),
+    (15, 14),
+    (15, 15),
+    (1, 0),
+    (0, 0),
+    (2, 5),
+    (16, 2),
+    (u64::MAX, 3),
+];
+
+/// Dates that the calendar nearly takes, beside which every date is tried whole and damaged.
+const EDGE_DATES: [&[u8]; 14] = [
+    b"",
+    b"20010229",
+    b"20000230",
+    b"21000101",
+    b"19991231",
+    b"20000001",
+    b"20001301",
+    b"20000100",
+    b"20000132",
+    b"20000431",
+    b"99999999",
+    b"-2000101",
+    b"200001 1",
+    b"\xff0000101",
+];
+
+/// Amounts that document 01 tells apart, and near ones.
+const EDGE_AMOUNTS: [&[u8]; 20] = [
+    b"",
+    b"-",
+    b".",
+    b"-.",
+    b"12.",
+    b".5",
+    b"-.5",
+    b"12.5",
+    b"-0",
+    b"-0.00",
+    b"0.005",
+    b"00012.50",
+    b"1.2.3",
+    b"--1",
+    b"+1",
+    b"1-",
+    b"1e3",
+    b"99999999999999999999",
+    b"\xff",
+    b"0",
+];
+
+fn hold_day(tally: &mut Tally, date: &[u8]) {
+    let expected = calendar::day_of(date);
+    tally.hold("day", &date, proved::day(date), expected.ok_or(3), expected.is_some());
+}
+
+fn days(random: &mut Random) -> u64 {
+    let mut tally = Tally::new();
+    for date in EDGE_DATES {
+        hold_day(&mut tally, date);
+    }
+    for year in 1999..=2100 {
+        for month in 0..=13 {
+            for day in 0..=32 {
+                let date = format!("{year:04}{month:02}{day:02}").into_bytes();
+                hold_day(&mut tally, &date);
+                hold_day(&mut tally, &inputs::damaged(random, &date));
+            }
+        }
+    }
+    for _ in 0..20_000 {
+        hold_day(&mut tally, &inputs::noise(random));
+        hold_day(&mut tally, &inputs::digits(random, 8));
+    }
+    tally.report("days")
+}
+
+fn hold_date_time(tally: &mut Tally, field: &[u8]) {
+    let expected = calendar::moment_of(field).map(|(day, second)| (u64::from(day), u64::from(second)));
+    tally.hold("date time", &field, proved::date_time(field), expected, expected.is_some());
+}
+
+fn date_times(random: &mut Random) -> u64 {
+    let mut tally = Tally::new();
+    for _ in 0..40_000 {
+        let (year, month, day) = (1999 + random.below(103), random.below(14), random.below(33));
+        let (hour, minute, second) = (random.below(26), random.below(62), random.below(62));
+        let field = format!("{year:04}{month:02}{day:02}{hour:02}{minute:02}{second:02}").into_bytes();
+        hold_date_time(&mut tally, &field);
+        hold_date_time(&mut tally, &inputs::damaged(random, &field));
+        hold_date_time(&mut tally, &inputs::noise(random));
+    }
+    tally.report("date times")
+}
+
+fn hold_amount(tally: &mut Tally, field: &[u8], precision: u64, places: u64) {
+    let narrow = |n: u64| u32::try_from(n).unwrap_or(u32::MAX);
+    let expected = match fields::amount_of(field, narrow(precision), narrow(places)) {
+        fields::Amount::Value(units) => Some(units),
+        fields::Amount::Misses => None,
+    };
+    tally.hold("amount", &(field, precision, places), proved::amount(field, precision, places), expected, expected.is_some());
+    let shaped = fields::is_number(field, narrow(precision), narrow(places));
+    tally.hold("number", &(field, precision, places), proved::is_number(field, precision, places), shaped, shaped);
+}
+
+fn amounts(random: &mut Random) -> u64 {
+    let mut tally = Tally::new();
+    for (precision, places) in WIDTHS {
+        for field in EDGE_AMOUNTS {
+            hold_amount(&mut tally, field, precision, places);
+        }
+        let drawn = precision.min(20);
+        for _ in 0..4_000 {
+            let field = inputs::amount(random, drawn, places);
+            hold_amount(&mut tally, &field, precision, places);
+            hold_amount(&mut tally, &inputs::damaged(random, &field), precision, places);
+            hold_amount(&mut tally, &inputs::noise(random), precision, places);
+        }
+    }
+    tally.report("amounts")
+}
+
+fn hold_digits(tally: &mut Tally, field: &[u8], count: u64) {
+    let expected = match count {
+        0 => fields::identifier_of(field),
+        _ => fields::fixed_digits(field, count as usize),
+    };
+    tally.hold("digits", &(field, count), proved::digits(field, count), expected, expected.is_some());
+}
+
+fn identifiers(random: &mut Random) -> u64 {
+    let mut tally = Tally::new();
+    for count in [0, 4, 9, 13, 1, 15, 16] {
+        hold_digits(&mut tally, b"", count);
+        for _ in 0..4_000 {
+            let length = if random.below(2) == 0 { count } else { random.below(18) };
+            let field = inputs::digits(random, length);
+            hold_digits(&mut tally, &field, count);
+            hold_digits(&mut tally, &inputs::damaged(random, &field), count);
+        }
+    }
+    tally.report("identifiers")
+}
+
+fn shared_days(random: &mut Random) -> u64 {
+    let mut tally = Tally::new();
+    for _ in 0..40_000 {
+        let mut draw = || (random.below(40), random.below(40));
+        let (one, other) = (draw(), draw());
+        let expected = periods::shares_day(one, other);
+        tally.hold("shared day", &(one, other), proved::shares_day(one, other), expected, expected);
+    }
+    tally.report("periods")
+}
+
+fn rejection_codes(random: &mut Random) -> u64 {
+    let mut tally = Tally::new();
+    let mut hold = |test: u64| {
+        let expected = codes::rejection_code(test);
+        tally.hold("code", &test, proved::code(test), expected.ok_or(107), expected.is_some());
+    };
+    (0..10_000).for_each(&mut hold);
+    (0..10_000).for_each(|_| hold(random.word()));
+    tally.report("codes")
+}
+
+/// Compares the readings of fields, and answers how many inputs there were.
+pub fn compare(seed: u64) -> u64 {
+    let random = &mut Random::new(seed);
+    days(random) + date_times(random) + amounts(random) + identifiers(random) + shared_days(random) + rejection_codes(random)
+}

@@ -1,0 +1,110 @@
+-- What callers learn of columns.
+--     held-some                        a number or a day is held as itself and one
+--     number-held, day-held            so what is held, less one, is the field's number or day
+--     number-none, day-none            and 0 says that the field has none
+--     number-small                     a number that is read has at most 15 digits
+--     charge-bound, usage-bound        and so have the amounts of a line
+--     charges-bound, usages-bound      and those of a column
+--     column-length, charges-length, usages-length    a column has one for each line
+--     column-at, charge-at, usage-at                  which is that of the line at its place
+-- Assumes nothing.
+use mathlib.Core.Path.{_≡_, refl, _∙_, ap}
+use mathlib.Core.List.{List, [], _∷_, map}
+use Prim.Native.Nat.{ℕ, zero, suc, _+_, _^_, _≤_, _<_}
+use native.Mathlib.Nat.{le-of-suc-le-suc}
+use native.Mathlib.Numerals.{add-one}
+use native.Mathlib.Omega.{arith}
+use lib.Dec.{lit<, lit≤}
+use lib.IntN.{ℤ, pos, natAbs}
+use lib.ListN.{length, getD, take, length-map}
+use Rattle.digits.specs.declared.Number.{Number}
+use Rattle.digits.specs.declared.Number.the-variants.{Value, Other}
+use Rattle.digits.specs.Digits.{digitsOf}
+use Rattle.digits.proofs.Laws.{ten-room, digits-say, digits-bound}
+use Rattle.calendar.specs.declared.Day.{Day}
+use Rattle.calendar.specs.declared.Day.the-variants.{At, NotADate}
+use Rattle.amounts.specs.Amounts.{amountOf, units}
+use Rattle.amounts.proofs.Laws.{units-bound}
+use Rattle.columns.specs.Columns.{heldNumber, heldDay, fieldIn, charge, usage, numberIn, chargeIn, usageIn, columnAt, ColumnsRead}
+
+-- ---- numbers that are held
+less-one : {A : Type 0} (value : ℕ → A) (m n : ℕ) → m + 1 ≡ suc n → value m ≡ value n
+less-one value m n e = ap value (omega (arith, e))
+
+pub held-some : (n : ℕ) → (heldNumber (Value n) ≡ suc n) × (heldDay (At n) ≡ suc n)
+held-some n = (add-one n, add-one n)
+
+pub number-held : (x : Number) (n : ℕ) → heldNumber x ≡ suc n → x ≡ Value n
+number-held (Value m) n e = less-one Value m n e
+number-held Other n e = absurd (omega (arith, e))
+
+pub day-held : (x : Day) (n : ℕ) → heldDay x ≡ suc n → x ≡ At n
+day-held (At m) n e = less-one At m n e
+day-held NotADate n e = absurd (omega (arith, e))
+
+pub number-none : (x : Number) → heldNumber x ≡ 0 → x ≡ Other
+number-none (Value m) e = absurd (omega (arith, e))
+number-none Other e = refl
+
+pub day-none : (x : Day) → heldDay x ≡ 0 → x ≡ NotADate
+day-none (At m) e = absurd (omega (arith, e))
+day-none NotADate e = refl
+
+pub number-small : (s : List ℕ) (n : ℕ) → digitsOf s ≡ Value n → n < 10 ^ 15
+number-small s n e = ten-room (length s) (digits-bound s n e) (digits-say s n e .few)
+
+-- ---- amounts
+amount-bound : (p s : ℕ) (t : List ℕ) → p ≤ 15 → natAbs (units (amountOf p s t)) < 10 ^ 15
+amount-bound p s t few = ten-room p (units-bound p s t) few
+
+pub charge-bound : (line : List ℕ) → natAbs (chargeIn line) < 10 ^ 15
+unfolding chargeIn
+charge-bound line = amount-bound 11 2 (fieldIn charge line) (lit≤ tt)
+
+pub usage-bound : (line : List ℕ) → natAbs (usageIn line) < 10 ^ 15
+unfolding usageIn
+usage-bound line = amount-bound 14 4 (fieldIn usage line) (lit≤ tt)
+
+small-column : (f : List ℕ → ℤ) → ((line : List ℕ) → natAbs (f line) < 10 ^ 15) → (lines : List (List ℕ)) (i : ℕ) → natAbs (getD (map f lines) i (pos 0)) < 10 ^ 15
+small-column f small [] i = lit< tt
+small-column f small (line ∷ lines) zero = small line
+small-column f small (line ∷ lines) (suc i) = small-column f small lines i
+
+pub charges-bound : (lines : List (List ℕ)) (i : ℕ) → natAbs (getD (map chargeIn lines) i (pos 0)) < 10 ^ 15
+charges-bound = small-column chargeIn charge-bound
+
+pub usages-bound : (lines : List (List ℕ)) (i : ℕ) → natAbs (getD (map usageIn lines) i (pos 0)) < 10 ^ 15
+usages-bound = small-column usageIn usage-bound
+
+-- ---- columns
+pub map-at : {A B : Type 0} (f : A → B) (d : A) (e : B) (xs : List A) (i : ℕ) → i < length xs → getD (map f xs) i e ≡ f (getD xs i d)
+map-at f d e [] i h = absurd (omega arith)
+map-at f d e (x ∷ xs) zero h = refl
+map-at f d e (x ∷ xs) (suc i) h = map-at f d e xs i (le-of-suc-le-suc h)
+
+module _ {A : Type 0} (f : List ℕ → A) (lines : List (List ℕ)) (column : List A) (same : column ≡ map f lines) where
+  as-long : length column ≡ length lines
+  as-long = ap length same ∙ length-map lines f
+
+  in-line : (d : A) (i : ℕ) → i < length lines → getD column i d ≡ f (getD lines i [])
+  in-line d i h = ap (λ (l : List A). getD l i d) same ∙ map-at f [] d lines i h
+
+module _ {lines : List (List ℕ)} {words : List ℕ} {chargeColumn usageColumn : List ℤ} (r : ColumnsRead lines words chargeColumn usageColumn) (n : ℕ) (e : n ≡ length lines) where
+  pub column-length : (column : ℕ) → column < 8 → length (columnAt column n words) ≡ n
+  column-length column h = rw e (as-long (numberIn column) lines _ (r .numbers column h))
+
+  pub charges-length : length (take n chargeColumn) ≡ n
+  charges-length = rw e (as-long chargeIn lines _ (r .charges))
+
+  pub usages-length : length (take n usageColumn) ≡ n
+  usages-length = rw e (as-long usageIn lines _ (r .usages))
+
+  module _ (i : ℕ) (h : i < n) where
+    pub column-at : (column : ℕ) → column < 8 → getD (columnAt column n words) i 0 ≡ numberIn column (getD lines i [])
+    column-at column l = rw e (in-line (numberIn column) lines _ (r .numbers column l) 0 i (omega (arith, e)))
+
+    pub charge-at : getD (take n chargeColumn) i (pos 0) ≡ chargeIn (getD lines i [])
+    charge-at = rw e (in-line chargeIn lines _ (r .charges) (pos 0) i (omega (arith, e)))
+
+    pub usage-at : getD (take n usageColumn) i (pos 0) ≡ usageIn (getD lines i [])
+    usage-at = rw e (in-line usageIn lines _ (r .usages) (pos 0) i (omega (arith, e)))

@@ -1,0 +1,114 @@
+-- The numbers and amounts of a record that tests read. A column has one of them for each record of a file.
+-- Assumes nothing.
+use Prim.Native.Nat.{ℕ, _+_, _*_, _≤_, _<_}
+use mathlib.Core.Path.{_≡_}
+use mathlib.Core.List.{List, [], _∷_, map}
+use mathlib.Core.Bool.{Bool, cond, _&&_}
+use lib.ListN.{length, getD, take, drop}
+use lib.Dec.{eqb, ltb}
+use lib.IntN.{ℤ, pos}
+use Rattle.lists.specs.Bytes.{sameBytes}
+use Rattle.lists.specs.Written.{written}
+use Rattle.digits.specs.declared.Number.{Number}
+use Rattle.digits.specs.declared.Number.the-variants.{Value, Other}
+use Rattle.digits.specs.Digits.{digitsOf}
+use Rattle.calendar.specs.declared.Day.{Day}
+use Rattle.calendar.specs.declared.Day.the-variants.{At, NotADate}
+use Rattle.calendar.specs.Calendar.{dayOf}
+use Rattle.amounts.specs.Amounts.{amountOf, units}
+use Rattle.records.specs.Records.{field, typeIn}
+
+-- ---- which field of which type a column reads: for FH, SH, TH, DU, DD, DM, CH, OC, FT the field, counted from 1, or 0 for none
+abbrev pub fieldTable : List (List ℕ)
+fieldTable =
+    (3 ∷ 3 ∷ 3 ∷ 3 ∷ 3 ∷ 3 ∷ 3 ∷ 3 ∷ 3 ∷ [])
+    ∷ (1 ∷ 1 ∷ 1 ∷ 1 ∷ 1 ∷ 1 ∷ 1 ∷ 1 ∷ 1 ∷ [])
+    ∷ (2 ∷ 2 ∷ 2 ∷ 2 ∷ 2 ∷ 2 ∷ 2 ∷ 2 ∷ 2 ∷ [])
+    ∷ (0 ∷ 4 ∷ 4 ∷ 4 ∷ 4 ∷ 4 ∷ 4 ∷ 4 ∷ 0 ∷ [])
+    ∷ (0 ∷ 0 ∷ 8 ∷ 0 ∷ 0 ∷ 0 ∷ 0 ∷ 7 ∷ 0 ∷ [])
+    ∷ (0 ∷ 5 ∷ 5 ∷ 5 ∷ 5 ∷ 5 ∷ 5 ∷ 0 ∷ 0 ∷ [])
+    ∷ (0 ∷ 6 ∷ 6 ∷ 6 ∷ 6 ∷ 6 ∷ 6 ∷ 0 ∷ 0 ∷ [])
+    ∷ (0 ∷ 0 ∷ 7 ∷ 7 ∷ 7 ∷ 7 ∷ 7 ∷ 6 ∷ 0 ∷ [])
+    ∷ (0 ∷ 14 ∷ 14 ∷ 0 ∷ 0 ∷ 0 ∷ 18 ∷ 10 ∷ 5 ∷ [])
+    ∷ (0 ∷ 12 ∷ 12 ∷ 16 ∷ 0 ∷ 0 ∷ 0 ∷ 0 ∷ 0 ∷ [])
+    ∷ []
+
+-- the rows
+abbrev pub recordType : ℕ
+recordType = 0
+
+abbrev pub recordId : ℕ
+recordId = 1
+
+abbrev pub parentId : ℕ
+parentId = 2
+
+abbrev pub site : ℕ
+site = 3
+
+-- TH 8 and OC 7
+abbrev pub reference : ℕ
+reference = 4
+
+abbrev pub startDay : ℕ
+startDay = 5
+
+abbrev pub endDay : ℕ
+endDay = 6
+
+abbrev pub cancel : ℕ
+cancel = 7
+
+-- the Charge Amount of CH and OC, the Charge Total of SH, TH and FT
+abbrev pub charge : ℕ
+charge = 8
+
+-- the Usage Amount of DU, the Usage Total of SH and TH
+abbrev pub usage : ℕ
+usage = 9
+
+unfoldable pub fieldOf : ℕ → ℕ → ℕ
+fieldOf column type = cond (ltb column 10 && ltb type 9) (getD (getD fieldTable column []) type 0) 0
+
+-- what stands in a column's field of a line
+abbrev pub fieldIn : ℕ → List ℕ → List ℕ
+fieldIn column line = field (fieldOf column (typeIn line)) line
+
+-- ---- numbers: a number is held as itself and one, so that 0 says that the field has none
+abbrev pub heldNumber : Number → ℕ
+heldNumber (Value n) = n + 1
+heldNumber Other = 0
+
+abbrev pub heldDay : Day → ℕ
+heldDay (At d) = d + 1
+heldDay NotADate = 0
+
+-- 1 for Y
+abbrev pub heldCancel : List ℕ → ℕ
+heldCancel s = cond (sameBytes s (written "Y")) 1 0
+
+-- IDs in columns 1 to 4, days in 5 and 6, the Cancel Indicator in 7
+unfoldable pub held : ℕ → List ℕ → ℕ
+held column s = cond (ltb column 5) (heldNumber (digitsOf s)) (cond (ltb column 7) (heldDay (dayOf s)) (heldCancel s))
+
+unfoldable pub numberIn : ℕ → List ℕ → ℕ
+numberIn column line = cond (eqb column 0) (typeIn line) (held column (fieldIn column line))
+
+-- ---- amounts, in units of their last place
+-- document 01: "An empty amount that isn't mandatory counts as zero"
+unfoldable pub chargeIn : List ℕ → ℤ
+chargeIn line = units (amountOf 11 2 (fieldIn charge line))
+
+-- of Number(13,4) and Number(14,4), which have the same places
+unfoldable pub usageIn : List ℕ → ℤ
+usageIn line = units (amountOf 14 4 (fieldIn usage line))
+
+-- ---- the columns of a file
+-- eight columns of numbers stand one after the other in one run of 8 times 4,096 words
+abbrev pub columnAt : ℕ → ℕ → List ℕ → List ℕ
+columnAt column n words = take n (drop (column * 4096) words)
+
+pub record ColumnsRead (lines : List (List ℕ)) (words : List ℕ) (chargeColumn usageColumn : List ℤ) : Type 0 where
+  pub numbers : (column : ℕ) → column < 8 → columnAt column (length lines) words ≡ map (numberIn column) lines
+  pub charges : take (length lines) chargeColumn ≡ map chargeIn lines
+  pub usages : take (length lines) usageColumn ≡ map usageIn lines

@@ -1,0 +1,5 @@
+pub mod ByField
+pub mod Codes
+pub mod Meaning
+pub mod Reflected
+pub mod Some

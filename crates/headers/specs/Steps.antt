@@ -1,0 +1,11 @@
+-- What a step of test 12 asks.
+-- Assumes nothing.
+use Prim.Native.Nat.{ℕ}
+use mathlib.Core.List.{List}
+use mathlib.Core.Bool.{Bool}
+use Rattle.lists.specs.Bytes.{sameBytes}
+use Rattle.headers.specs.Headers.{group}
+
+-- the sender is group g of the distributors
+abbrev pub isGroup : List ℕ → List ℕ → ℕ → Bool
+isGroup distributors sender g = sameBytes (group distributors g) sender

@@ -1,0 +1,41 @@
+-- `intake::intake_check` meets its contract: the number and the line that Check answers are small enough for one word.
+-- Assumes nothing.
+use Rattle.intake.specs.Answers.{packed, checkAnswer}
+use Rattle.validation.proofs.Outcomes.{check-small}
+use Rattle.validation.specs.Check.{checkOf}
+use Rattle.validation.specs.declared.Outcome.{Outcome}
+use denote.Ref.{now}
+use Prim.Native.Nat.{ℕ, _≤_}
+use mathlib.Core.Path.{_≡_, sym, _∙_, ap}
+use borrow.Author.Needs.{needs}
+use native.Mathlib.Omega.{arith}
+use Rattle.intake.proofs.intake_check.Statement.{statement}
+use Rattle.intake.proofs.intake_check.Tie as tie
+use Rattle.intake.proofs.intake_check.Reads as reads
+use Rattle.intake.proofs.intake_check.Lts as lts
+use Rattle.validation.proofs.check.Reads as check-reads
+
+-- the number and the line that Check answers are small
+small : (c : tie.After-check) → (c .check .result .number ≤ 104) × (c .check .result .line ≤ 4096)
+small c =
+    let s = check-small (c .before .before .before .args .retailer) (now (c .before .before .before .args .distributors)) (now (c .before .before .before .args .file)) in
+    (omega (arith, s .0, ap (λ (o : Outcome). o .number) (c .check .ensures)), omega (arith, s .1, ap (λ (o : Outcome). o .line) (c .check .ensures)))
+
+-- src/lib.rt:16:9
+check-requires : tie.Need-check-requires
+check-requires c κs = search needs
+
+-- src/lib.rt:17:5
+mul-result : tie.Need-mul-result
+mul-result c = omega (arith, small (c .before) .0)
+
+-- src/lib.rt:17:5
+add-result : tie.Need-add-result
+add-result c = omega (arith, small (c .before .before) .0, small (c .before .before) .1)
+
+-- src/lib.rt:12:1
+returns : tie.Need-returns
+returns c = ap (λ (o : Outcome). packed (checkAnswer o)) (c .before .before .check .ensures)
+
+pub intake-check-spec : {M : Type 1} → statement M
+intake-check-spec = tie.close (tie.spec check-requires mul-result add-result returns)

@@ -1,0 +1,91 @@
+-- The conditions of test 18 one by one: where one fails the whole fails, and where all but the last hold the last decides.
+-- A Site Header that chooses a period:
+--     no-header, header-of-another-site, header-without-start, header-without-end, starts-before-header, ends-after-header, chooses-by-end
+-- Two periods that share a day: shares-none, shares-by-last
+-- Two periods that overlap: different-sites, first-no-original, second-no-original, no-shared-day, overlaps-by-header
+-- Assumes nothing.
+use mathlib.Core.Path.{_≡_, sym, _∙_}
+use mathlib.Core.Bool.{true, false, _&&_, and-false}
+use Prim.Native.Nat.{ℕ, _≤_, _<_, min, max}
+use native.Mathlib.Omega.{arith}
+use native.Mathlib.Decide.{decLe}
+use borrow.Author.Tests.{eq-eqb, ne-eqb, le-leb, lt-leb}
+use lib.Dec.{leb}
+use lib.ListN.{length}
+use Rattle.lists.specs.Below.{someBelow}
+use Rattle.types.specs.Types.{SH}
+use Rattle.groups.specs.Groups.{at}
+use Rattle.periods.specs.Periods.{PeriodColumns, isOriginal, chooses, shareDay, overlaps}
+
+module _ (c : PeriodColumns) where
+  module _ (h i : ℕ) where
+    pub no-header : (at (c .types) h ≡ SH → ⊥) → chooses c h i ≡ false
+    unfolding chooses
+    no-header other = simp (ne-eqb _ _ other)
+
+    pub header-of-another-site : (at (c .sites) h ≡ at (c .sites) i → ⊥) → chooses c h i ≡ false
+    unfolding chooses
+    header-of-another-site other = simp (ne-eqb _ _ other, and-false)
+
+    pub header-without-start : at (c .starts) h ≡ 0 → chooses c h i ≡ false
+    unfolding chooses
+    header-without-start empty = simp (eq-eqb _ _ empty, and-false)
+
+    pub header-without-end : at (c .ends) h ≡ 0 → chooses c h i ≡ false
+    unfolding chooses
+    header-without-end empty = simp (eq-eqb _ _ empty, and-false)
+
+    pub starts-before-header : at (c .starts) i < at (c .starts) h → chooses c h i ≡ false
+    unfolding chooses
+    starts-before-header outside = simp (lt-leb _ _ outside, and-false)
+
+    pub ends-after-header : at (c .ends) h < at (c .ends) i → chooses c h i ≡ false
+    unfolding chooses
+    ends-after-header outside = simp (lt-leb _ _ outside, and-false)
+
+    pub chooses-by-end : at (c .types) h ≡ SH → at (c .sites) h ≡ at (c .sites) i → (at (c .starts) h ≡ 0 → ⊥) → (at (c .ends) h ≡ 0 → ⊥)
+        → at (c .starts) h ≤ at (c .starts) i → leb (at (c .ends) i) (at (c .ends) h) ≡ chooses c h i
+    unfolding chooses
+    chooses-by-end header site start end from =
+        simp (eq-eqb _ _ header, eq-eqb _ _ site, ne-eqb _ _ start, ne-eqb _ _ end, le-leb _ _ from)
+
+  module _ (i j : ℕ) where
+    abbrev later-start : ℕ
+    later-start = max (at (c .starts) i) (at (c .starts) j)
+
+    abbrev earlier-end : ℕ
+    earlier-end = min (at (c .ends) i) (at (c .ends) j)
+
+    pub shares-none : earlier-end < later-start → shareDay c i j ≡ false
+    unfolding shareDay
+    shares-none apart = lt-leb later-start earlier-end apart
+
+    pub shares-by-last : at (c .starts) j ≤ at (c .ends) i → at (c .starts) i ≤ at (c .ends) j → at (c .starts) i ≤ at (c .ends) i
+        → leb (at (c .starts) j) (at (c .ends) j) ≡ shareDay c i j
+    unfolding shareDay
+    shares-by-last one other own = go (decLe (at (c .starts) j) (at (c .ends) j))
+      where
+        go : Dec (at (c .starts) j ≤ at (c .ends) j) → leb (at (c .starts) j) (at (c .ends) j) ≡ shareDay c i j
+        go (yes last) = le-leb (at (c .starts) j) (at (c .ends) j) last ∙ sym (le-leb later-start earlier-end (omega arith))
+        go (no last) = lt-leb (at (c .starts) j) (at (c .ends) j) (omega arith) ∙ sym (lt-leb later-start earlier-end (omega arith))
+
+    pub different-sites : (at (c .sites) i ≡ at (c .sites) j → ⊥) → overlaps c i j ≡ false
+    unfolding overlaps
+    different-sites differ = simp (ne-eqb _ _ differ, and-false)
+
+    pub first-no-original : isOriginal c i ≡ false → overlaps c i j ≡ false
+    unfolding overlaps
+    first-no-original other = simp other
+
+    pub second-no-original : isOriginal c j ≡ false → overlaps c i j ≡ false
+    unfolding overlaps
+    second-no-original other = simp (other, and-false)
+
+    pub no-shared-day : shareDay c i j ≡ false → overlaps c i j ≡ false
+    unfolding overlaps
+    no-shared-day apart = simp (apart, and-false)
+
+    pub overlaps-by-header : isOriginal c i ≡ true → isOriginal c j ≡ true → at (c .sites) i ≡ at (c .sites) j → shareDay c i j ≡ true
+        → someBelow (λ (h : ℕ). chooses c h i && chooses c h j) (length (c .types)) ≡ overlaps c i j
+    unfolding overlaps
+    overlaps-by-header first second site shared = simp (first, second, eq-eqb _ _ site, shared)

@@ -1,0 +1,60 @@
+-- Tests 14 and 18 of Table 5-1, as document 01, "Tests", reads them. A day is held as itself and one; 0 says that the field is empty.
+-- Assumes nothing.
+use Prim.Native.Nat.{ℕ, min, max}
+use mathlib.Core.Path.{_≡_}
+use mathlib.Core.List.{List}
+use mathlib.Core.Bool.{Bool, not, _&&_}
+use lib.ListN.{length, getD}
+use lib.Dec.{eqb, leb, ltb}
+use Rattle.lists.specs.Below.{firstBelow, someBelow}
+use Rattle.types.specs.Types.{SH, TH}
+use Rattle.groups.specs.Groups.{at}
+
+-- ---- 14: "no start date is after its end date, where both are filled"
+unfoldable pub isReversed : List ℕ → List ℕ → ℕ → Bool
+isReversed starts ends i = not (eqb (at starts i) 0) && not (eqb (at ends i) 0) && ltb (at ends i) (at starts i)
+
+unfoldable pub firstReversed : List ℕ → List ℕ → ℕ
+firstReversed starts ends = firstBelow (isReversed starts ends) (length starts)
+
+-- ---- 18: "no two N periods of a site, both lying within the current billing period of one and the same SH of that site, share a day
+-- (the later line fails). An SH with an empty billing date chooses none."
+-- the columns that it reads
+pub record PeriodColumns : Type 0 where
+  pub types : List ℕ
+  pub sites : List ℕ
+  pub starts : List ℕ
+  pub ends : List ℕ
+  pub cancels : List ℕ
+
+abbrev pub periodColumns : List ℕ → List ℕ → List ℕ → List ℕ → List ℕ → PeriodColumns
+periodColumns types sites starts ends cancels = record { types = types; sites = sites; starts = starts; ends = ends; cancels = cancels }
+
+-- they have one number for each record
+pub record SameLength (types sites starts ends cancels : List ℕ) : Type 0 where
+  pub sites-length : length sites ≡ length types
+  pub starts-length : length starts ≡ length types
+  pub ends-length : length ends ≡ length types
+  pub cancels-length : length cancels ≡ length types
+
+-- "N periods"
+unfoldable pub isOriginal : PeriodColumns → ℕ → Bool
+isOriginal c i = eqb (at (c .types) i) TH && eqb (at (c .cancels) i) 0
+
+-- "lying within the current billing period" of the SH at h "of that site"
+unfoldable pub chooses : PeriodColumns → ℕ → ℕ → Bool
+chooses c h i =
+    eqb (at (c .types) h) SH && eqb (at (c .sites) h) (at (c .sites) i) && not (eqb (at (c .starts) h) 0) && not (eqb (at (c .ends) h) 0)
+    && leb (at (c .starts) h) (at (c .starts) i) && leb (at (c .ends) i) (at (c .ends) h)
+
+-- "share a day"
+unfoldable pub shareDay : PeriodColumns → ℕ → ℕ → Bool
+shareDay c i j = leb (max (at (c .starts) i) (at (c .starts) j)) (min (at (c .ends) i) (at (c .ends) j))
+
+unfoldable pub overlaps : PeriodColumns → ℕ → ℕ → Bool
+overlaps c i j =
+    isOriginal c i && isOriginal c j && eqb (at (c .sites) i) (at (c .sites) j) && shareDay c i j
+    && someBelow (λ (h : ℕ). chooses c h i && chooses c h j) (length (c .types))
+
+unfoldable pub firstOverlapping : PeriodColumns → ℕ
+firstOverlapping c = firstBelow (λ (j : ℕ). someBelow (λ (i : ℕ). overlaps c i j) j) (length (c .types))

@@ -1,0 +1,34 @@
+-- `is_mandatory` meets its contract: the constant computes to the marks of the tables.
+-- Assumes nothing.
+use Rattle.records.specs.Tables.{isMandatory}
+use mathlib.Core.Path.{_≡_}
+use mathlib.Core.Bool.{and-false}
+use borrow.Author.Tests.{lt-ltb, le-ltb}
+use borrow.Author.Needs.{needs}
+use Rattle.records.proofs.is_mandatory.Statement.{statement}
+use Rattle.records.proofs.is_mandatory.Tie as tie
+
+returns : tie.Need-returns
+unfolding isMandatory
+returns c = simp (le-ltb _ _ (c .if1 .taken))
+
+returns-2 : tie.Need-returns-2
+unfolding isMandatory
+returns-2 c = simp (le-ltb _ _ (c .if2 .taken), and-false)
+
+mul-result : tie.Need-mul-result
+mul-result c = search needs
+
+index-1-result : tie.Need-index-1-result
+index-1-result c = search needs
+
+index-2-result : tie.Need-index-2-result
+index-2-result c = search needs
+
+returns-3 : tie.Need-returns-3
+unfolding isMandatory
+returns-3 c = simp (lt-ltb _ _ (c .before .before .if1 .left), lt-ltb _ _ (c .before .if2 .left))
+
+pub is-mandatory-spec : {M : Type 1} → statement M
+is-mandatory-spec =
+    tie.close (tie.spec returns returns-2 mul-result index-1-result index-2-result returns-3)

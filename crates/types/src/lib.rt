@@ -1,0 +1,84 @@
+// The nine record types, counted from 0: FH, SH, TH, DU, DD, DM, CH, OC, FT.
+ghost use mathlib.Core.Path.{_≡_};
+ghost use Rattle.types.specs.Types.{typeNamed, mayFollow, parentType};
+
+// The two letters of each type, as the number 256 * first + second.
+const LETTERS: [u64; 9] = [
+    17992,
+    21320,
+    21576,
+    17493,
+    17476,
+    17485,
+    17224,
+    20291,
+    18004,
+];
+
+// Whether the type of the column may follow the type of the row.
+const FOLLOWS: [[bool; 9]; 9] = [
+    // after FH
+    [false, true, false, false, false, false, false, false, false],
+    // after SH
+    [false, false, true, false, false, false, false, true, false],
+    // after TH
+    [false, true, true, true, true, true, true, true, true],
+    // after DU
+    [false, true, true, true, true, true, true, true, true],
+    // after DD
+    [false, true, true, false, true, true, true, true, true],
+    // after DM
+    [false, true, true, false, false, true, true, true, true],
+    // after CH
+    [false, true, true, false, false, false, true, true, true],
+    // after OC
+    [false, true, false, false, false, false, false, true, true],
+    // after FT
+    [
+        false,
+        false,
+        false,
+        false,
+        false,
+        false,
+        false,
+        false,
+        false,
+    ],
+];
+
+// The type that two letters name, or 9.
+pub fn type_named(s: &[u8]) -> u64
+    ensures { λ r. ⌜ r ≡ typeNamed (now (s .entry)) ⌝ }
+{
+    if s.len() != 2 {
+        return 9;
+    }
+    let name = lists::wide(s[0]) * 256 + lists::wide(s[1]);
+    lists::find_number(&LETTERS, name) as u64
+}
+
+// Whether a record of the present type may follow one of the previous type.
+pub fn may_follow(previous: u64, present: u64) -> bool
+    ensures { λ r. ⌜ r ≡ mayFollow previous present ⌝ }
+{
+    if 9 <= previous {
+        return false;
+    }
+    if 9 <= present {
+        return false;
+    }
+    FOLLOWS[previous as usize][present as usize]
+}
+
+// The type of the record that a record of a type hangs under; FH, which has none, has 9.
+const PARENTS: [u64; 9] = [9, 0, 1, 2, 2, 2, 2, 1, 0];
+
+pub fn parent_type(record_type: u64) -> u64
+    ensures { λ r. ⌜ r ≡ parentType record_type ⌝ }
+{
+    if 9 <= record_type {
+        return 9;
+    }
+    PARENTS[record_type as usize]
+}

@@ -1,0 +1,5 @@
+pub mod Accepted
+pub mod Check
+pub mod Fits
+pub mod Passing
+pub mod Steps
