@@ -21,7 +21,7 @@ use Rattle.fields.specs.declared.FieldType.{FieldType}
 use Rattle.fields.specs.Fields.{fitsType}
 use Rattle.records.specs.declared.Record.{Record}
 use Rattle.records.specs.Records.{recordFields, field, RecordFound}
-use Rattle.records.specs.Tables.{fieldType}
+use Rattle.tables.specs.Tables.{fieldType}
 use Rattle.records.proofs.Laws.{field-at}
 use Rattle.format.specs.Format.{lineAt, someField, firstByField, unfit, unfilled}
 use Rattle.format.specs.Steps.{unfilledAt}

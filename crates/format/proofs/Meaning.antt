@@ -23,7 +23,7 @@ use Rattle.fields.specs.Fields.{fitsType}
 use Rattle.text.specs.Text.{fieldsOf}
 use Rattle.types.specs.Types.{FH, FT, mayFollow}
 use Rattle.records.specs.Records.{recordFields, field, typeIn}
-use Rattle.records.specs.Tables.{fieldCount, fieldType, isMandatory}
+use Rattle.tables.specs.Tables.{fieldCount, fieldType, isMandatory}
 use Rattle.records.proofs.Laws.{fields-known, field-none}
 use Rattle.format.specs.Format.{lineAt, isEmpty, isPrintable, unformatted, firstUnformatted, unfit, firstUnfit, unfilled, firstUnfilled, misplaced, firstMisplaced, commodityFields, unitFields, cancelFields, exemptionFields, neither, unitOf, miscoded, firstMiscoded}
 use Rattle.format.proofs.Reflected.{none-fails, some-fails, neither-of, not-both, both-of, denied, same-bytes-is, empty-is}

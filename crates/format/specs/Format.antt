@@ -11,7 +11,7 @@ use Rattle.lists.specs.Written.{written}
 use Rattle.fields.specs.Fields.{fitsType}
 use Rattle.types.specs.Types.{FH, FT, mayFollow}
 use Rattle.records.specs.Records.{recordFields, field, typeIn}
-use Rattle.records.specs.Tables.{fieldCount, fieldType, isMandatory}
+use Rattle.tables.specs.Tables.{fieldCount, fieldType, isMandatory}
 
 abbrev pub lineAt : List (List ℕ) → ℕ → List ℕ
 lineAt lines i = getD lines i []

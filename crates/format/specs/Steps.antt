@@ -8,7 +8,7 @@ use Rattle.lists.specs.Bytes.{sameBytes}
 use Rattle.lists.specs.Written.{written}
 use Rattle.types.specs.Types.{FH}
 use Rattle.records.specs.Records.{field}
-use Rattle.records.specs.Tables.{isMandatory}
+use Rattle.tables.specs.Tables.{isMandatory}
 
 -- ---- 5: `unfilled`, of a record's type, the number of fields before the field, and the field's length
 unfoldable pub unfilledAt : ℕ → ℕ → ℕ → Bool

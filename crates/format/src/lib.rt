@@ -52,7 +52,7 @@ fn is_unformatted(file: &[u8], a: usize, e: usize) -> bool
     if 9 <= record_type {
         return true;
     }
-    count != records::field_count(record_type)
+    count != tables::field_count(record_type)
 }
 
 // Test 2.
@@ -88,7 +88,7 @@ pub fn first_unfit(file: &[u8], starts: &[usize], ends: &[usize], n: usize) -> u
         while k < count {
             let b = r.starts[k];
             let f = r.ends[k];
-            if !fields::fits(records::field_type(record_type, k), &file[b..f]) {
+            if !fields::fits(field_types::field_type(record_type, k), &file[b..f]) {
                 break 'records;
             }
             k += 1;
@@ -107,7 +107,7 @@ fn is_unfilled(record_type: u64, k: usize, len: usize) -> bool
             return len != 0;
         }
     }
-    if records::is_mandatory(record_type, k) {
+    if tables::is_mandatory(record_type, k) {
         return len == 0;
     }
     false

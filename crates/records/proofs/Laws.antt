@@ -4,7 +4,6 @@
 --     none-at, place-at          what the code answers for the place of field k
 --     type-third                 the type of a line goes by its third place
 --     fields-known               a line of a known type has its parts as fields
---     field-counts               the field counts are those of document 01
 -- Assumes nothing.
 use mathlib.Core.Path.{_≡_, refl, sym, _∙_, ap, subst}
 use mathlib.Core.List.{List, [], _∷_}
@@ -21,7 +20,6 @@ use Rattle.types.specs.Types.{typeNamed}
 use Rattle.text.specs.Text.{part, fieldsOf, Placed, At}
 use Rattle.text.proofs.Placed.{placed-at}
 use Rattle.records.specs.Records.{recordFields, field, typeIn}
-use Rattle.records.specs.Tables.{fieldCounts}
 
 pub fields-few : (line : List ℕ) → length (fieldsOf line) ≤ 24 → recordFields line ≡ fieldsOf line
 unfolding recordFields
@@ -75,7 +73,3 @@ fields-known line h = go (decLt 24 (length (fieldsOf line)))
         let z : typeNamed (field 3 line) ≡ 9 = rw none in
         absurd (omega (arith, h, z))
     go (no k) = fields-few line (omega (arith, k))
-
--- document 01: "The 2007 field counts are 9, 18, 14, 17, 15, 10, 19, 11, 5"
-pub field-counts : fieldCounts ≡ 9 ∷ 18 ∷ 14 ∷ 17 ∷ 15 ∷ 10 ∷ 19 ∷ 11 ∷ 5 ∷ []
-field-counts = refl

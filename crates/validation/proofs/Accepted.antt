@@ -34,7 +34,7 @@ use Rattle.fields.specs.declared.FieldType.the-variants.{RecordId, Digits, Numb
 use Rattle.fields.specs.Fields.{isRead, isDay, fitsFilled, fitsType}
 use Rattle.types.specs.Types.{FH, TH, OC}
 use Rattle.records.specs.Records.{recordFields, field, typeIn}
-use Rattle.records.specs.Tables.{fieldCount, fieldType, isMandatory}
+use Rattle.tables.specs.Tables.{fieldCount, fieldType, isMandatory}
 use Rattle.records.proofs.Laws.{fields-known}
 use Rattle.columns.specs.Columns.{fieldOf, fieldIn, usageIn, recordId, site, reference, startDay, endDay}
 use Rattle.columns.proofs.Laws.{map-at, number-small, charge-bound, usage-bound}

@@ -1,11 +1,11 @@
 -- `field_count` meets its contract: the constant computes to the lengths of the tables.
 -- Assumes nothing.
-use Rattle.records.specs.Tables.{fieldCount, fieldCounts}
+use Rattle.tables.specs.Tables.{fieldCount, fieldCounts}
 use lib.ListN.{List·getD-eq-default}
 use mathlib.Core.Path.{_≡_, sym}
 use borrow.Author.Needs.{needs}
-use Rattle.records.proofs.field_count.Statement.{statement}
-use Rattle.records.proofs.field_count.Tie as tie
+use Rattle.tables.proofs.field_count.Statement.{statement}
+use Rattle.tables.proofs.field_count.Tie as tie
 
 returns : tie.Need-returns
 unfolding fieldCount

@@ -1,12 +1,12 @@
 -- `field_type` meets its contract: the constant computes to the types of the tables.
 -- Assumes nothing.
-use Rattle.records.specs.Tables.{fieldType}
+use Rattle.tables.specs.Tables.{fieldType}
 use mathlib.Core.Path.{_≡_}
 use mathlib.Core.Bool.{and-false}
 use borrow.Author.Tests.{lt-ltb, le-ltb}
 use borrow.Author.Needs.{needs}
-use Rattle.records.proofs.field_type.Statement.{statement}
-use Rattle.records.proofs.field_type.Tie as tie
+use Rattle.field_types.proofs.field_type.Statement.{statement}
+use Rattle.field_types.proofs.field_type.Tie as tie
 
 returns : tie.Need-returns
 unfolding fieldType

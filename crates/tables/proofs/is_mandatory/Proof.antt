@@ -1,12 +1,12 @@
 -- `is_mandatory` meets its contract: the constant computes to the marks of the tables.
 -- Assumes nothing.
-use Rattle.records.specs.Tables.{isMandatory}
+use Rattle.tables.specs.Tables.{isMandatory}
 use mathlib.Core.Path.{_≡_}
 use mathlib.Core.Bool.{and-false}
 use borrow.Author.Tests.{lt-ltb, le-ltb}
 use borrow.Author.Needs.{needs}
-use Rattle.records.proofs.is_mandatory.Statement.{statement}
-use Rattle.records.proofs.is_mandatory.Tie as tie
+use Rattle.tables.proofs.is_mandatory.Statement.{statement}
+use Rattle.tables.proofs.is_mandatory.Tie as tie
 
 returns : tie.Need-returns
 unfolding isMandatory
