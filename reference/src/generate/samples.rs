@@ -19,6 +19,9 @@ pub const VALID_GAS: &str = "valid-gas.csv";
 /// electricity.
 pub const CANCEL_AND_REBILL: &str = "cancel-and-rebill.csv";
 
+/// The same of gas, to be booked after the valid gas.
+pub const CANCEL_AND_REBILL_GAS: &str = "cancel-and-rebill-gas.csv";
+
 /// The name of the sample that a test refuses.
 pub fn sample_name(test: u32) -> String {
     format!("test-{test:02}.csv")
@@ -51,6 +54,12 @@ pub fn sample_files(seed: u64) -> Vec<(String, Vec<u8>)> {
         let file = generator.refused_file(test, &run, used);
         files.extend(file.map(|file| (sample_name(test), file)));
     }
+    generator.begin_ledger();
+    generator.accept(&gas);
+    let gas_rebill =
+        Request { commodity: Commodity::NaturalGas, sites: 1, periods: 1, cancels: 2, ..request };
+    let draft = generator.valid(&gas_rebill);
+    files.push((CANCEL_AND_REBILL_GAS.to_owned(), draft.plain_bytes()));
     generator.begin_ledger();
     files.extend(CHECK_TESTS.map(|test| (sample_name(test), generator.damaged(test))));
     files

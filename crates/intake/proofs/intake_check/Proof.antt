@@ -11,9 +11,6 @@ use borrow.Author.Needs.{needs}
 use native.Mathlib.Omega.{arith}
 use Rattle.intake.proofs.intake_check.Statement.{statement}
 use Rattle.intake.proofs.intake_check.Tie as tie
-use Rattle.intake.proofs.intake_check.Reads as reads
-use Rattle.intake.proofs.intake_check.Lts as lts
-use Rattle.validation.proofs.check.Reads as check-reads
 
 -- the number and the line that Check answers are small
 small : (c : tie.After-check) → (c .check .result .number ≤ 104) × (c .check .result .line ≤ 4096)
@@ -21,19 +18,15 @@ small c =
     let s = check-small (c .before .before .before .args .retailer) (now (c .before .before .before .args .distributors)) (now (c .before .before .before .args .file)) in
     (omega (arith, s .0, ap (λ (o : Outcome). o .number) (c .check .ensures)), omega (arith, s .1, ap (λ (o : Outcome). o .line) (c .check .ensures)))
 
--- src/lib.rt:16:9
 check-requires : tie.Need-check-requires
 check-requires c κs = search needs
 
--- src/lib.rt:17:5
 mul-result : tie.Need-mul-result
 mul-result c = omega (arith, small (c .before) .0)
 
--- src/lib.rt:17:5
 add-result : tie.Need-add-result
 add-result c = omega (arith, small (c .before .before) .0, small (c .before .before) .1)
 
--- src/lib.rt:12:1
 returns : tie.Need-returns
 returns c = ap (λ (o : Outcome). packed (checkAnswer o)) (c .before .before .check .ensures)
 

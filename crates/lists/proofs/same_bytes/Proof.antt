@@ -12,8 +12,6 @@ use borrow.Author.Needs.{needs}
 use native.Mathlib.Omega.{arith}
 use Rattle.lists.proofs.same_bytes.Statement.{statement}
 use Rattle.lists.proofs.same_bytes.Tie as tie
-use Rattle.lists.proofs.same_bytes.Reads as reads
-use Rattle.lists.proofs.same_bytes.Lts as lts
 
 abbrev Inv-loop : tie.InvT-loop
 Inv-loop s t i₀ i = (i ≤ length s) × Searched (differsAt s t) (length s) i
@@ -21,27 +19,22 @@ Inv-loop s t i₀ i = (i ≤ length s) × Searched (differsAt s t) (length s) i
 abbrev μ-loop : tie.MeasureT-loop
 μ-loop s t i₀ i = length s - i
 
--- src/lib.rt:45:9
 returns : tie.Need-returns Inv-loop μ-loop
 unfolding sameBytes
 returns c = simp (ne-eqb _ _ (c .if1 .taken))
 
--- src/lib.rt:48:5
 loop-holds : tie.Need-loop-holds Inv-loop μ-loop
 loop-holds c =
     let s = now (c .before .args .s) in
     let t = now (c .before .args .t) in
     (omega arith, searched-none (differsAt s t) (length s))
 
--- src/lib.rt:49:12
 shared-slice-read-if2 : tie.Need-shared-slice-read-if2 Inv-loop μ-loop
 shared-slice-read-if2 c = search needs
 
--- src/lib.rt:49:20
 shared-slice-read-if2-2 : tie.Need-shared-slice-read-if2-2 Inv-loop μ-loop
 shared-slice-read-if2-2 c = search needs
 
--- src/lib.rt:50:13
 returns-2 : tie.Need-returns-2 Inv-loop μ-loop
 unfolding sameBytes
 returns-2 c =
@@ -53,15 +46,12 @@ returns-2 c =
       found-some (differsAt s t) (length s) (p .loop .i) (omega arith) (searched-here (differsAt s t) (length s) (p .loop .i) (omega arith) (p .loop .inv .1) (ap not (ne-eqb _ _ (c .if2 .taken)))),
     )
 
--- src/lib.rt:52:9
 add-i : tie.Need-add-i Inv-loop μ-loop
 add-i c = search needs
 
--- src/lib.rt:48:5
 loop-less : tie.Need-loop-less Inv-loop μ-loop
 loop-less c = search needs
 
--- src/lib.rt:48:5
 loop-again : tie.Need-loop-again Inv-loop μ-loop
 loop-again c =
     let p = c .before .before .before .before in
@@ -69,7 +59,6 @@ loop-again c =
     let t = now (p .before .before .args .t) in
     (omega arith, searched-more (differsAt s t) (length s) (p .loop .i) (omega arith) (p .loop .inv .1) (ap not (eq-eqb _ _ (c .if2 .left))))
 
--- src/lib.rt:41:1
 returns-3 : tie.Need-returns-3 Inv-loop μ-loop
 unfolding sameBytes
 returns-3 c =

@@ -1,3 +1,5 @@
+-- `types::may_follow` meets its contract: the constant computes to the table of the followers.
+-- Assumes nothing.
 use Rattle.types.specs.Types.{mayFollow}
 use mathlib.Core.Bool.{and-false}
 use borrow.Author.Tests.{lt-ltb, le-ltb}

@@ -1,3 +1,5 @@
+-- `types::parent_type` meets its contract: the constant computes to the list of the parents' types.
+-- Assumes nothing.
 use Rattle.types.specs.Types.{parentType}
 use borrow.Author.Tests.{lt-ltb, le-ltb}
 use mathlib.Core.Path.{_≡_}

@@ -1,3 +1,5 @@
+-- `types::type_named` meets its contract: the constant computes to the letters of the types' names.
+-- Assumes nothing.
 use Rattle.types.specs.Types.{typeNamed}
 use denote.Ref.{now}
 use borrow.Author.Tests.{eq-eqb, ne-eqb}
