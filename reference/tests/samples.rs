@@ -21,7 +21,9 @@ fn samples() -> BTreeMap<String, Vec<u8>> {
 #[test]
 fn every_test_has_its_sample() {
     let samples = samples();
-    assert_eq!(samples.len(), 3 + CHECK_TESTS.len() + LEDGER_TESTS.len());
+    let valid = [VALID_ELECTRICITY, VALID_GAS, CANCEL_AND_REBILL, CANCEL_AND_REBILL_GAS];
+    assert_eq!(samples.len(), valid.len() + CHECK_TESTS.len() + LEDGER_TESTS.len());
+    assert_eq!(check(RETAILER, DISTRIBUTORS, &samples[CANCEL_AND_REBILL_GAS]), (0, 0));
     for test in CHECK_TESTS {
         let file = &samples[&sample_name(test)];
         assert_eq!(check(RETAILER, DISTRIBUTORS, file).0, test);
