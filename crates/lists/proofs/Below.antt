@@ -6,6 +6,8 @@
 --     some-holds, some-is, some-none        the same of `someBelow`
 --     first-same, some-same                 tests that agree below n have the same answer
 --     nearest-at-most, nearest-holds, nearest-none, nearest-is    what the nearest place is
+--     count-none, count-more, count-kept    the count of a loop that stands at place n: at the start; one more; the same
+--     count-at-most, count-zero, zero-count, count-same    what the count is: 0 exactly where the test finds nothing
 -- Assumes nothing.
 use mathlib.Core.Path.{_≡_, refl, sym, _∙_, ap, subst}
 use mathlib.Core.Bool.{Bool, true, false, cond}
@@ -16,7 +18,7 @@ use native.Mathlib.Omega.{arith}
 use native.Mathlib.Decide.{decLt}
 use borrow.Author.Tests.{lt-ltb, le-ltb, ltb-true, ltb-false}
 use lib.Dec.{ltb}
-use Rattle.lists.specs.Below.{firstFrom, firstBelow, someBelow, nearestBelow}
+use Rattle.lists.specs.Below.{firstFrom, firstBelow, someBelow, nearestBelow, countBelow}
 
 split : (n i : ℕ) → i < n → n - i ≡ suc (n - suc i)
 split n i h = omega arith
@@ -199,3 +201,50 @@ module _ (f : ℕ → Bool) where
           last : Dec (k < n) → f k ≡ false
           last (yes l) = rest e k l
           last (no l) = let same : n ≡ k = omega (arith, l) in subst (λ (m : ℕ). f m ≡ false) same q
+
+-- ---- how many places
+module _ (f : ℕ → Bool) where
+  pub count-none : countBelow f 0 ≡ 0
+  unfolding countBelow
+  count-none = refl
+
+  pub count-more : (n : ℕ) → f n ≡ true → countBelow f (n + 1) ≡ countBelow f n + 1
+  unfolding countBelow
+  count-more n e = rw add-one (rw e)
+
+  pub count-kept : (n : ℕ) → f n ≡ false → countBelow f (n + 1) ≡ countBelow f n
+  unfolding countBelow
+  count-kept n e = rw add-one (rw (e, add-zero))
+
+  pub count-at-most : (n : ℕ) → countBelow f n ≤ n
+  unfolding countBelow
+  count-at-most zero = le-refl 0
+  count-at-most (suc n) = go (f n) (count-at-most n)
+    where
+      go : (b : Bool) → countBelow f n ≤ n → countBelow f n + cond b 1 0 ≤ suc n
+      go true h = omega arith
+      go false h = omega arith
+
+  -- the count is 0 exactly where the test finds nothing
+  pub count-zero : (n : ℕ) → countBelow f n ≡ 0 → (k : ℕ) → k < n → f k ≡ false
+  unfolding countBelow
+  count-zero zero e k h = absurd (omega arith)
+  count-zero (suc n) e k h = go (f n) refl e (count-zero n)
+    where
+      go : (b : Bool) → f n ≡ b → countBelow f n + cond b 1 0 ≡ 0 → (countBelow f n ≡ 0 → (m : ℕ) → m < n → f m ≡ false) → f k ≡ false
+      go true q e rest = absurd (omega (arith, e))
+      go false q e rest = last (decLt k n)
+        where
+          last : Dec (k < n) → f k ≡ false
+          last (yes l) = rest (omega (arith, e)) k l
+          last (no l) = let same : n ≡ k = omega (arith, l) in subst (λ (m : ℕ). f m ≡ false) same q
+
+  pub zero-count : (n : ℕ) → ((k : ℕ) → k < n → f k ≡ false) → countBelow f n ≡ 0
+  unfolding countBelow
+  zero-count zero none = refl
+  zero-count (suc n) none = rw (zero-count n (λ k h. none k (omega arith)), none n (omega arith))
+
+pub count-same : (f g : ℕ → Bool) (n : ℕ) → ((j : ℕ) → j < n → f j ≡ g j) → countBelow f n ≡ countBelow g n
+unfolding countBelow
+count-same f g zero same = refl
+count-same f g (suc n) same = rw (same n (omega arith), count-same f g n (λ j h. same j (omega arith)))

@@ -1,6 +1,6 @@
 -- The first place at which a test finds something: every test of a file is such a search, and stops at the first record that fails.
 -- Assumes nothing.
-use Prim.Native.Nat.{ℕ, zero, suc}
+use Prim.Native.Nat.{ℕ, zero, suc, _+_}
 use mathlib.Core.Bool.{Bool, cond}
 use lib.Dec.{ltb}
 
@@ -21,3 +21,8 @@ someBelow f n = ltb (firstBelow f n) n
 unfoldable pub nearestBelow : (ℕ → Bool) → ℕ → ℕ
 nearestBelow f zero = zero
 nearestBelow f (suc n) = cond (f n) (suc n) (nearestBelow f n)
+
+-- how many places below n there are at which f holds
+unfoldable pub countBelow : (ℕ → Bool) → ℕ → ℕ
+countBelow f zero = zero
+countBelow f (suc n) = countBelow f n + cond (f n) 1 0

@@ -40,7 +40,8 @@ use Rattle.columns.specs.Columns.{fieldOf, fieldIn, usageIn, recordId, site, re
 use Rattle.columns.proofs.Laws.{map-at, number-small, charge-bound, usage-bound}
 use Rattle.format.specs.Format.{lineAt}
 use Rattle.format.proofs.Reflected.{both-of, denied, empty-is}
-use Rattle.validation.specs.Accepted.{Bill, numberOrZero, numberOrNone, dayOrZero, senderIn, idIn, isPeriod, isBill, billIn, filter, billsIn, billFile}
+use Rattle.validation.specs.Accepted.{Bill, numberOrZero, numberOrNone, dayOrZero, senderIn, idIn, isPeriod, isBill, billIn, billsIn, billFile}
+use Rattle.lists.specs.Selections.{filter}
 use Rattle.validation.specs.Fits.{BillFits, FileFits, Distinct}
 use Rattle.validation.specs.Passing.{typeAt, idAt, Passing}
 

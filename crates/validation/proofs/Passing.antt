@@ -1,4 +1,5 @@
 -- What Check passes: the settings fit, the file isn't too large, and its lines have all that the record `Passing` (specs/Passing) says.
+--     tests-none             none of tests 2 to 38 refuses exactly these lines
 --     check-passes           exactly these files pass
 -- The proofs turn each test, which reads columns, into what it says of the lines, both ways, and put the tests together in their order. Assumes nothing.
 use mathlib.Core.Path.{_≡_, refl, sym, _∙_, ap}
@@ -269,6 +270,11 @@ module _ (retailer : ℕ) (distributors : List ℕ) (lines : List (List ℕ)) wh
     where
       sized : length (types lines) ≡ length lines
       sized = types-length lines
+
+-- none of tests 2 to 38 refuses a file exactly where it has what they ask
+pub tests-none : (retailer : ℕ) (distributors : List ℕ) (lines : List (List ℕ)) → NoneOf (testRefusals retailer distributors lines) ↔ Passing retailer distributors lines
+unfolding NoRefusal
+tests-none retailer distributors lines = tests-pass retailer distributors lines
 
 pub check-passes : (retailer : ℕ) (distributors file : List ℕ)
     → (checkOf retailer distributors file ≡ passed) ↔ ((settingsFit retailer distributors ≡ true) × (isTooLarge file ≡ false) × Passing retailer distributors (linesOf file))

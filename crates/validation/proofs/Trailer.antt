@@ -25,7 +25,8 @@ use Rattle.totals.specs.Totals.{amountAt, groupSum}
 use Rattle.totals.specs.Sums.{groupsSum}
 use Rattle.totals.proofs.Laws.{sum-same, sum-none, sum-split}
 use Rattle.validation.specs.Check.{types, charges, parentsOf, placesOf, onesOf}
-use Rattle.validation.specs.Accepted.{isPeriod, isBill, billIn, filter, billsIn, billFile, sumOfCharges}
+use Rattle.validation.specs.Accepted.{isPeriod, isBill, billIn, billsIn, billFile, sumOfCharges}
+use Rattle.lists.specs.Selections.{filter}
 use Rattle.validation.specs.Passing.{typeAt, Under, Passing}
 use Rattle.validation.proofs.Lines.{type-at, under-is, type-under-is, picked-size, types-length}
 use Rattle.validation.proofs.Sums.{own-totals, file-totals}

@@ -2,14 +2,15 @@
 -- Document 01, "The ledger": "A period's charge and usage are its TH's totals, a one-time charge's charge is its Charge Amount; days and usage
 -- are kept for periods only. Fields that a kind lacks are 0; a file entry has its trailer charge total".
 -- Assumes nothing.
-use Prim.Native.Nat.{ℕ, _-_}
+use Prim.Native.Nat.{ℕ, suc, _-_}
 use mathlib.Core.List.{List, [], _∷_, map}
 use mathlib.Core.Bool.{Bool, cond, _||_}
 use mathlib.Core.Option.{Option, none, some}
 use lib.ListN.{length, getD}
 use lib.Dec.{eqb}
-use lib.IntN.{ℤ, pos, _+ℤ_}
+use lib.IntN.{ℤ, pos}
 use Rattle.lists.specs.Bytes.{sameBytes}
+use Rattle.lists.specs.Selections.{filter, sum}
 use Rattle.lists.specs.Written.{written}
 use Rattle.digits.specs.declared.Number.{Number}
 use Rattle.digits.specs.declared.Number.the-variants.{Value, Other}
@@ -46,6 +47,8 @@ pub record BillFile : Type 0 where
   pub recordId : ℕ
   pub total : ℤ
   pub bills : List Bill
+  -- the line of each of them, counted from 1
+  pub lines : List ℕ
 
 -- ---- what the fields say
 abbrev pub numberOrZero : Number → ℕ
@@ -92,13 +95,13 @@ billIn header line =
       reference = numberOrNone (digitsOf (fieldIn reference line));
     }
 
--- the elements for which f holds, in order
-abbrev pub filter {ℓ} : {A : Type ℓ} → (A → Bool) → List A → List A
-filter f [] = []
-filter f (x ∷ xs) = cond (f x) (x ∷ filter f xs) (filter f xs)
-
 unfoldable pub billsIn : List (List ℕ) → List Bill
 billsIn lines = map (billIn (lineAt lines 0)) (filter isBill lines)
+
+-- the lines of the TH and OC, where n lines stand before
+unfoldable pub billLines : ℕ → List (List ℕ) → List ℕ
+billLines n [] = []
+billLines n (line ∷ rest) = cond (isBill line) (suc n ∷ billLines (suc n) rest) (billLines (suc n) rest)
 
 -- FH is the first line and FT the last
 unfoldable pub billFile : List (List ℕ) → BillFile
@@ -109,8 +112,8 @@ billFile lines =
       recordId = idIn (lineAt lines 0);
       total = chargeIn (lineAt lines (length lines - 1));
       bills = billsIn lines;
+      lines = billLines 0 lines;
     }
 
 abbrev pub sumOfCharges : List Bill → ℤ
-sumOfCharges [] = pos 0
-sumOfCharges (b ∷ bs) = b .charge +ℤ sumOfCharges bs
+sumOfCharges bills = sum (λ (b : Bill). b .charge) bills

@@ -1,0 +1,5 @@
+pub mod Acceptable
+pub mod Booking
+pub mod Guarantee
+pub mod Kept
+pub mod Passes

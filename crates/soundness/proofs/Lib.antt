@@ -1,0 +1,6 @@
+pub mod Conditions
+pub mod Meaning
+pub mod Opposite
+pub mod Partners
+pub mod Scans
+pub mod Tests
