@@ -5,10 +5,10 @@ ghost use lib.ListN.{length, take};
 ghost use Rattle.text.specs.Text.{linesOf, part, parts, Placed};
 ghost use Rattle.columns.specs.Columns.{fieldOf, held, columnAt, ColumnsRead};
 ghost use Rattle.columns.specs.Rows.{fieldAmong, RowRead, RowStored};
-use amounts::Charge;
-use amounts::Usage;
 use calendar::Day;
 use digits::Number;
+use units::Charge;
+use units::Usage;
 
 // The columns of numbers, and after them the two of amounts.
 pub const RECORD_TYPE: usize = 0;

@@ -22,7 +22,7 @@ fn print_units(units: i64) {
     if units < 0 {
         print(b"-");
     }
-    io::print_decimal(STDOUT_FILENO, amounts::size(units));
+    io::print_decimal(STDOUT_FILENO, units::size(units));
 }
 
 fn print_amount(s: &[u8]) {

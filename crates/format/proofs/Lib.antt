@@ -1,5 +1,1 @@
-pub mod ByField
-pub mod Codes
-pub mod Meaning
-pub mod Reflected
 pub mod Some

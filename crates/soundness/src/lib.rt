@@ -26,7 +26,7 @@ fn sizes_fit(places: usize, used: usize) -> bool
 fn amount_fits(amount: i64) -> bool
     ensures { λ r. ⌜ r ≡ ltb (natAbs amount) (10 ^ 15) ⌝ }
 {
-    amounts::size(amount) < 1000000000000000
+    units::size(amount) < 1000000000000000
 }
 
 // "senders have at most 4 digits, sites 13, IDs and amounts 15"
@@ -98,7 +98,7 @@ fn period_lacks_fit(e: Entry) -> bool
     if e.end != 0 {
         return false;
     }
-    amounts::size(e.usage) == 0
+    units::size(e.usage) == 0
 }
 
 // A file has no site.

@@ -22,7 +22,7 @@ use Rattle.records.specs.Records.{field, typeIn}
 use Rattle.columns.specs.Columns.{fieldIn, chargeIn, usageIn, recordId, parentId, site, startDay, endDay, cancel}
 use Rattle.groups.specs.Groups.{parentPlace}
 use Rattle.format.specs.Format.{lineAt, unitOf}
-use Rattle.format.proofs.Meaning.{Formatted, Fitting, Ordered, Filled, Coded}
+use Rattle.format_laws.proofs.Meaning.{Formatted, Fitting, Ordered, Filled, Coded}
 use Rattle.headers.specs.Headers.{isNumber}
 use Rattle.headers.proofs.Meaning.{Listed}
 use Rattle.validation.specs.Check.{types}

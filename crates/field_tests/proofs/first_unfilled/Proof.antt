@@ -1,0 +1,133 @@
+-- `first_unfilled` meets its contract. The outer loop has passed i lines and the inner one k fields of line i, whose record is r;
+-- a field that is not filled as it must be makes its line the answer.
+-- Assumes nothing.
+use Rattle.field_tests.proofs.ByField.{record-of, field-place, unfilled-is, PassedLines, PassedFields, lines-none, fields-none, fields-more, lines-more, lines-here, lines-end}
+use Rattle.format.specs.Format.{lineAt, unfilled}
+use Rattle.text.proofs.Placed.{placed-at}
+use Rattle.text.specs.Text.{linesOf}
+use Rattle.records.specs.Records.{RecordFound}
+use denote.Ref.{now}
+use mathlib.Core.Path.{_≡_, sym, _∙_}
+use Prim.Native.Nat.{_-_, _≤_}
+use borrow.Author.Needs.{needs}
+use native.Mathlib.Omega.{arith}
+use Rattle.field_tests.proofs.first_unfilled.Statement.{statement}
+use Rattle.field_tests.proofs.first_unfilled.Tie as tie
+
+abbrev Inv-loop : tie.InvT-loop
+Inv-loop file starts ends n i a e r record-type count k₀ k = (k ≤ count) × RecordFound file (lineAt (linesOf file) i) r × PassedFields unfilled (linesOf file) i k
+
+abbrev μ-loop : tie.MeasureT-loop
+μ-loop file starts ends n i a e r record-type count k₀ k = count - k
+
+abbrev Inv-records : tie.InvT-records
+Inv-records file starts ends n i₀ i = (i ≤ n) × PassedLines unfilled (linesOf file) i
+
+abbrev μ-records : tie.MeasureT-records
+μ-records file starts ends n i₀ i = n - i
+
+records-holds : tie.Need-records-holds Inv-loop μ-loop Inv-records μ-records
+records-holds c = (omega arith, lines-none unfilled (linesOf (now (c .before .before .before .args .file))))
+
+mul-a : tie.Need-mul-a Inv-loop μ-loop Inv-records μ-records
+mul-a c = search needs
+
+shared-slice-read-a : tie.Need-shared-slice-read-a Inv-loop μ-loop Inv-records μ-records
+shared-slice-read-a c = search needs
+
+mul-e : tie.Need-mul-e Inv-loop μ-loop Inv-records μ-records
+mul-e c = search needs
+
+shared-slice-read-e : tie.Need-shared-slice-read-e Inv-loop μ-loop Inv-records μ-records
+shared-slice-read-e c = search needs
+
+record-at-requires : tie.Need-record-at-requires Inv-loop μ-loop Inv-records μ-records
+record-at-requires c κs = let l = placed-at (c .before .before .before .before .before .before .before .pre) (c .before .before .before .records .i) (c .before .before .records-test .taken) in (l .low, l .high)
+
+loop-holds : tie.Need-loop-holds Inv-loop μ-loop Inv-records μ-records
+loop-holds c = (omega arith, record-of (c .before .before .before .before .before .before .before .before .pre) (c .before .before .before .before .records .i) (c .before .before .before .records-test .taken) (c .record-at .ensures), fields-none unfilled (linesOf (now (c .before .before .before .before .before .before .before .before .args .file))) (c .before .before .before .before .records .i))
+
+mul-b : tie.Need-mul-b Inv-loop μ-loop Inv-records μ-records
+mul-b c = search needs
+
+element-copy-out-b : tie.Need-element-copy-out-b Inv-loop μ-loop Inv-records μ-records
+element-copy-out-b c = omega (arith, c .before .loop .inv .1 .starts, c .before .loop .inv .1 .few)
+
+mul-f : tie.Need-mul-f Inv-loop μ-loop Inv-records μ-records
+mul-f c = search needs
+
+element-copy-out-f : tie.Need-element-copy-out-f Inv-loop μ-loop Inv-records μ-records
+element-copy-out-f c = omega (arith, c .before .before .loop .inv .1 .ends, c .before .before .loop .inv .1 .few)
+
+sub-is-unfilled : tie.Need-sub-is-unfilled Inv-loop μ-loop Inv-records μ-records
+sub-is-unfilled c = field-place (c .before .before .before .loop .inv .1) (c .before .before .before .loop .k) (c .before .before .loop-test .taken) .low
+
+is-unfilled-requires : tie.Need-is-unfilled-requires Inv-loop μ-loop Inv-records μ-records
+is-unfilled-requires c κs = search needs
+
+add-k : tie.Need-add-k Inv-loop μ-loop Inv-records μ-records
+add-k c = search needs
+
+loop-less : tie.Need-loop-less Inv-loop μ-loop Inv-records μ-records
+loop-less c = search needs
+
+loop-again : tie.Need-loop-again Inv-loop μ-loop Inv-records μ-records
+loop-again c =
+    let p = c .before .before .before .before .before .loop in (
+      omega arith,
+      p .inv .1,
+      fields-more unfilled (linesOf (now (c .before .before .before .before .before .before .before .before .before .before .before .before .before .before .args .file))) (c .before .before .before .before .before .before .before .before .before .before .records .i) (p .inv .1) (p .k) (p .inv .2) (c .before .before .before .before .loop-test .taken)
+          (unfilled-is (p .inv .1) (p .k) (c .before .before .before .before .loop-test .taken) (c .before .is-unfilled .ensures) ∙ c .if1 .left),
+    )
+
+add-i : tie.Need-add-i Inv-loop μ-loop Inv-records μ-records
+add-i c = omega arith
+
+records-less : tie.Need-records-less Inv-loop μ-loop Inv-records μ-records
+records-less c = search needs
+
+records-again : tie.Need-records-again Inv-loop μ-loop Inv-records μ-records
+records-again c =
+    let p = c .before .loop in (
+      omega arith,
+      lines-more unfilled (linesOf (now (c .before .before .before .before .before .before .before .before .before .before .args .file))) (c .before .before .before .before .before .before .records .i) (p .inv .1) (p .k) (p .inv .2) (omega (arith, c .before .before .before .before .before .before .before .before .before .before .pre .count)) (c .before .before .before .before .before .before .records .inv .1) (c .loop-test .left),
+    )
+
+returns : tie.Need-returns Inv-loop μ-loop Inv-records μ-records
+returns c = sym (lines-end unfilled (linesOf (now (c .before .before .before .before .before .args .file))) (c .before .records .i) (omega (arith, c .before .before .before .before .before .pre .count)) (c .before .records .inv .1))
+
+returns-2 : tie.Need-returns-2 Inv-loop μ-loop Inv-records μ-records
+returns-2 c =
+    let p = c .before .before .before .before .before .loop in
+    sym (lines-here unfilled (linesOf (now (c .before .before .before .before .before .before .before .before .before .before .before .before .before .before .args .file))) (c .before .before .before .before .before .before .before .before .before .before .records .i) (p .inv .1) (p .k) (p .inv .2) (omega (arith, c .before .before .before .before .before .before .before .before .before .before .before .before .before .before .pre .count)) (c .before .before .before .before .before .before .before .before .before .before .records .inv .1) (c .before .before .before .before .loop-test .taken)
+    (unfilled-is (p .inv .1) (p .k) (c .before .before .before .before .loop-test .taken) (c .before .is-unfilled .ensures) ∙ c .if1 .taken))
+
+pub first-unfilled-spec : {M : Type 1} → statement M
+first-unfilled-spec =
+    tie.close
+    (tie.spec
+    Inv-loop
+    μ-loop
+    Inv-records
+    μ-records
+    records-holds
+    mul-a
+    shared-slice-read-a
+    mul-e
+    shared-slice-read-e
+    record-at-requires
+    loop-holds
+    mul-b
+    element-copy-out-b
+    mul-f
+    element-copy-out-f
+    sub-is-unfilled
+    is-unfilled-requires
+    add-k
+    loop-less
+    loop-again
+    add-i
+    records-less
+    records-again
+    returns
+    returns-2)

@@ -1,0 +1,73 @@
+// Tests 3 and 5: each field fits its type, and is filled where it must be.
+// Each answers the place of the first record that fails, or the number of records.
+ghost use mathlib.Core.Path.{_≡_};
+ghost use Rattle.text.specs.Text.{linesOf, Placed};
+ghost use Rattle.format.specs.Format.{firstUnfit, firstUnfilled};
+ghost use Rattle.field_tests.specs.Steps.{unfilledAt};
+
+// Test 3: record by record and field by field, and stops at the first that fails.
+pub fn first_unfit(file: &[u8], starts: &[usize], ends: &[usize], n: usize) -> usize
+    requires { ⌜ Placed (now file) n (now starts) (now ends) (linesOf (now file)) ⌝ }
+    ensures { λ r. ⌜ r ≡ firstUnfit (linesOf (now (file .entry))) ⌝ }
+{
+    let mut i: usize = 0;
+    'records: while i < n {
+        let a = starts[i];
+        let e = ends[i];
+        let r = records::record_at(file, a, e);
+        let record_type = r.record_type;
+        let count = r.count;
+        let mut k: usize = 0;
+        while k < count {
+            let b = r.starts[k];
+            let f = r.ends[k];
+            if !fields::fits(field_types::field_type(record_type, k), &file[b..f]) {
+                break 'records;
+            }
+            k += 1;
+        }
+        i += 1;
+    }
+    i
+}
+
+// Whether the field after k others, of a record of a type, is empty where it must not be or filled where it must not be.
+fn is_unfilled(record_type: u64, k: usize, len: usize) -> bool
+    ensures { λ r. ⌜ r ≡ unfilledAt record_type k len ⌝ }
+{
+    if record_type == 0 {
+        if k == 1 {
+            return len != 0;
+        }
+    }
+    if tables::is_mandatory(record_type, k) {
+        return len == 0;
+    }
+    false
+}
+
+// Test 5: record by record and field by field, and stops at the first that fails.
+pub fn first_unfilled(file: &[u8], starts: &[usize], ends: &[usize], n: usize) -> usize
+    requires { ⌜ Placed (now file) n (now starts) (now ends) (linesOf (now file)) ⌝ }
+    ensures { λ r. ⌜ r ≡ firstUnfilled (linesOf (now (file .entry))) ⌝ }
+{
+    let mut i: usize = 0;
+    'records: while i < n {
+        let a = starts[i];
+        let e = ends[i];
+        let r = records::record_at(file, a, e);
+        let record_type = r.record_type;
+        let count = r.count;
+        let mut k: usize = 0;
+        while k < count {
+            let b = r.starts[k];
+            let f = r.ends[k];
+            if is_unfilled(record_type, k, f - b) {
+                break 'records;
+            }
+            k += 1;
+        }
+        i += 1;
+    }
+    i
+}

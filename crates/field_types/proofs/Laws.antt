@@ -1,0 +1,27 @@
+-- The codes of the tables stand for the types of the tables: one computation over all of them.
+-- Assumes nothing.
+use mathlib.Core.Path.{_≡_, refl, sym, _∙_, ap}
+use mathlib.Core.List.{List, [], map}
+use Prim.Native.Nat.{ℕ}
+use lib.ListN.{getD, List·getD-map}
+use Rattle.fields.specs.declared.FieldType.{FieldType}
+use Rattle.fields.specs.declared.FieldType.the-variants.{RecordId}
+use Rattle.tables.specs.Tables.{typeRows}
+use Rattle.field_types.specs.Codes.{codeOf, typeOfCode}
+
+abbrev pub codeRows : List (List ℕ)
+codeRows = map (λ (row : List FieldType). map codeOf row) typeRows
+
+typesOf : List ℕ → List FieldType
+typesOf row = map typeOfCode row
+
+same : map typesOf codeRows ≡ typeRows
+unfolding typesOf typeOfCode
+same = refl
+
+pub code-read : (type k : ℕ) → typeOfCode (getD (getD codeRows type []) k 0) ≡ getD (getD typeRows type []) k RecordId
+unfolding typesOf typeOfCode
+code-read type k =
+    sym (List·getD-map typeOfCode (getD codeRows type []) k 0)
+    ∙ ap (λ (row : List FieldType). getD row k RecordId) (sym (List·getD-map typesOf codeRows type []))
+    ∙ ap (λ (rows : List (List FieldType)). getD (getD rows type []) k RecordId) same

@@ -1,0 +1,4 @@
+pub mod FindLaws
+pub mod Meaning
+pub mod SoundLaws
+pub mod TotalsLaws
