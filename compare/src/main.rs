@@ -3,6 +3,7 @@
 mod fields;
 mod files;
 mod inputs;
+mod ledgers;
 mod tally;
 
 fn main() {
@@ -10,5 +11,7 @@ fn main() {
     assert!(fields >= 200_000);
     let files = files::compare(7);
     assert!(files >= 100_000);
-    println!("{fields} fields and {files} files, no disagreement");
+    let ledgers = ledgers::compare(11);
+    assert!(ledgers >= 20_000);
+    println!("{fields} fields, {files} files and {ledgers} ledgers, no disagreement");
 }

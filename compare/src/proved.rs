@@ -1,5 +1,7 @@
 //! The proved functions, as the static library exports them, behind safe functions.
 
+use reference::ledger::{Entry, StateTotals, Totals, MOST_ENTRIES};
+
 mod exported {
     extern "C" {
         pub fn intake_day(date: *const u8, date_len: usize) -> u64;
@@ -10,6 +12,10 @@ mod exported {
         pub fn comparison_digits(field: *const u8, field_len: usize, count: u64, value: *mut u64) -> u64;
         pub fn comparison_date_time(field: *const u8, field_len: usize, day: *mut u64, second: *mut u64) -> u64;
         pub fn comparison_shares_day(start: u64, end: u64, other_start: u64, other_end: u64) -> u64;
+        pub fn ledger_sound(words: *const u64, words_len: usize, amounts: *const i64, amounts_len: usize, places: usize, used: usize) -> u64;
+        pub fn ledger_totals(words: *const u64, words_len: usize, amounts: *const i64, amounts_len: usize, places: usize, used: usize) -> u64;
+        pub fn ledger_total(words: *const u64, words_len: usize, amounts: *const i64, amounts_len: usize, places: usize, used: usize, state: u64, which: u64) -> i64;
+        pub fn ledger_find(words: *const u64, words_len: usize, amounts: *const i64, amounts_len: usize, places: usize, used: usize, site: u64, day: u64) -> u64;
     }
 }
 
@@ -79,4 +85,58 @@ pub fn date_time(field: &[u8]) -> Option<(u64, u64)> {
 
 pub fn shares_day(one: (u64, u64), other: (u64, u64)) -> bool {
     unsafe { exported::comparison_shares_day(one.0, one.1, other.0, other.1) == 1 }
+}
+
+/// A ledger in words, nine and two amounts an entry, with room for 8,192 entries.
+pub struct Words {
+    words: Vec<u64>,
+    amounts: Vec<i64>,
+}
+
+impl Words {
+    pub fn new() -> Words {
+        Words { words: vec![0; 9 * MOST_ENTRIES], amounts: vec![0; 2 * MOST_ENTRIES] }
+    }
+
+    /// Puts the entries of a run, at most 8,192, into the words.
+    pub fn fill(&mut self, run: &[Entry]) {
+        for (place, entry) in run.iter().take(MOST_ENTRIES).enumerate() {
+            let words = [entry.sender, entry.commodity, entry.kind, entry.record_id, entry.site, entry.start, entry.end, entry.state, entry.cancelled_id];
+            self.words[9 * place..9 * place + 9].copy_from_slice(&words);
+            self.amounts[2 * place..2 * place + 2].copy_from_slice(&[entry.charge, entry.usage]);
+        }
+    }
+
+    /// Whether the ledger is sound: 0, or 105.
+    pub fn sound(&self, places: usize, used: usize) -> bool {
+        let (words, amounts) = (&self.words, &self.amounts);
+        match unsafe { exported::ledger_sound(words.as_ptr(), words.len(), amounts.as_ptr(), amounts.len(), places, used) } {
+            0 => true,
+            105 => false,
+            other => panic!("soundness answers {other}"),
+        }
+    }
+
+    pub fn totals(&self, places: usize, used: usize) -> Result<Totals, u32> {
+        let (words, amounts) = (&self.words, &self.amounts);
+        let number = unsafe { exported::ledger_totals(words.as_ptr(), words.len(), amounts.as_ptr(), amounts.len(), places, used) };
+        if number != 0 {
+            return Err(number as u32);
+        }
+        let total = |state, which| unsafe { exported::ledger_total(words.as_ptr(), words.len(), amounts.as_ptr(), amounts.len(), places, used, state, which) };
+        let of_state = |state| StateTotals { charge: total(state, 0), usage_kwh: total(state, 1), usage_gj: total(state, 2) };
+        Ok(Totals { live: of_state(1), held: of_state(2) })
+    }
+
+    pub fn find(&self, places: usize, used: usize, site: u64, day: u64) -> Result<Option<usize>, u32> {
+        let (words, amounts) = (&self.words, &self.amounts);
+        let answer = unsafe { exported::ledger_find(words.as_ptr(), words.len(), amounts.as_ptr(), amounts.len(), places, used, site, day) };
+        unpacked(answer).map(|place| (place as usize).checked_sub(1))
+    }
+}
+
+impl Default for Words {
+    fn default() -> Words {
+        Words::new()
+    }
 }

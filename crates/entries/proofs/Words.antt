@@ -1,5 +1,5 @@
 -- Laws of the words: what stands where after an entry is written, and the list of entries that the words are.
---     length-writes, below-writes           stores keep the length
+--     length-writes                         stores keep the length
 --     written-here, written-elsewhere       an entry that is written is read back; the others are as they were
 --     length-entries, entry-of, take-entries    how many entries the words are, which they are, and the first of them
 --     set-entries                           with an entry written, they are the same list with that entry in it
@@ -23,9 +23,6 @@ module _ {X : Type 0} where
   pub length-writes : (l : List X) (ws : List (ℕ × X)) → length (writes l ws) ≡ length l
   length-writes l [] = refl
   length-writes l (w ∷ ws) = length-writes (set l (w .0) (w .1)) ws ∙ length-set l (w .0) (w .1)
-
-  pub below-writes : (l : List X) (ws : List (ℕ × X)) (i : ℕ) → i < length l → i < length (writes l ws)
-  below-writes l ws i h = subst (λ (n : ℕ). i < n) (sym (length-writes l ws)) h
 
   -- the stores are at rising places, from low to below high
   abbrev Rising : ℕ → ℕ → List (ℕ × X) → Type 0

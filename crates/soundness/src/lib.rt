@@ -367,6 +367,7 @@ fn is_unpaired(words: &[u64], amounts: &[i64], used: usize, i: usize) -> bool
     !has_partner(words, amounts, used, i)
 }
 
+// Whether the entry at i breaks one of the sentences.
 fn is_faulty(words: &[u64], amounts: &[i64], used: usize, i: usize) -> bool
     requires { ⌜ (used * 9 ≤ length (now words)) × (used * 2 ≤ length (now amounts)) × (i < used) ⌝ }
     ensures { λ r. ⌜ r ≡ isFaulty (entriesOf (now (words .entry)) (now (amounts .entry)) used) i ⌝ }

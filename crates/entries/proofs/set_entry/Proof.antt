@@ -1,15 +1,12 @@
--- `entries::set_entry` meets its contract. Each index is below the length after the stores before it (`Words.antt`), and a signed field is what its bits read back as.
+-- `entries::set_entry` meets its contract: stores keep the length, and a signed field is what its bits read back as.
 -- Assumes nothing.
 use Prim.Native.Nat.{_+_, _*_}
 use native.Mathlib.Omega.{arith}
 use mathlib.Core.Path.{_≡_, refl}
-use mathlib.Core.List.{[], _∷_}
-use lib.ListN.{take, set}
+use lib.ListN.{set, length-set}
 use mir.Syntax.{w64}
 use mir.Val.{toZ, ofZ}
 use borrow.Author.Needs.{needs}
-use Rattle.entries.specs.Words.{wordsAt}
-use Rattle.entries.proofs.Words.{length-writes, below-writes}
 use Rattle.entries.proofs.set_entry.Statement.{statement}
 use Rattle.entries.proofs.set_entry.Tie as tie
 
@@ -32,7 +29,7 @@ mul-words-2 : tie.Need-mul-words-2
 mul-words-2 c = search needs
 
 slice-write-words-2 : tie.Need-slice-write-words-2
-slice-write-words-2 c = below-writes (c .before .before .args .words .now) (take 1 (wordsAt (c .before .before .args .at) (c .before .before .args .e))) (c .before .before .args .at * 9 + 1) (omega arith)
+slice-write-words-2 c = simp length-set (omega arith)
 
 add-words-2 : tie.Need-add-words-2
 add-words-2 c = search needs
@@ -41,7 +38,7 @@ mul-words-3 : tie.Need-mul-words-3
 mul-words-3 c = search needs
 
 slice-write-words-3 : tie.Need-slice-write-words-3
-slice-write-words-3 c = below-writes (c .before .before .args .words .now) (take 2 (wordsAt (c .before .before .args .at) (c .before .before .args .e))) (c .before .before .args .at * 9 + 2) (omega arith)
+slice-write-words-3 c = simp length-set (omega arith)
 
 add-words-3 : tie.Need-add-words-3
 add-words-3 c = search needs
@@ -50,7 +47,7 @@ mul-words-4 : tie.Need-mul-words-4
 mul-words-4 c = search needs
 
 slice-write-words-4 : tie.Need-slice-write-words-4
-slice-write-words-4 c = below-writes (c .before .before .args .words .now) (take 3 (wordsAt (c .before .before .args .at) (c .before .before .args .e))) (c .before .before .args .at * 9 + 3) (omega arith)
+slice-write-words-4 c = simp length-set (omega arith)
 
 add-words-4 : tie.Need-add-words-4
 add-words-4 c = search needs
@@ -59,7 +56,7 @@ mul-words-5 : tie.Need-mul-words-5
 mul-words-5 c = search needs
 
 slice-write-words-5 : tie.Need-slice-write-words-5
-slice-write-words-5 c = below-writes (c .before .before .args .words .now) (take 4 (wordsAt (c .before .before .args .at) (c .before .before .args .e))) (c .before .before .args .at * 9 + 4) (omega arith)
+slice-write-words-5 c = simp length-set (omega arith)
 
 add-words-5 : tie.Need-add-words-5
 add-words-5 c = search needs
@@ -68,7 +65,7 @@ mul-words-6 : tie.Need-mul-words-6
 mul-words-6 c = search needs
 
 slice-write-words-6 : tie.Need-slice-write-words-6
-slice-write-words-6 c = below-writes (c .before .before .args .words .now) (take 5 (wordsAt (c .before .before .args .at) (c .before .before .args .e))) (c .before .before .args .at * 9 + 5) (omega arith)
+slice-write-words-6 c = simp length-set (omega arith)
 
 add-words-6 : tie.Need-add-words-6
 add-words-6 c = search needs
@@ -77,7 +74,7 @@ mul-words-7 : tie.Need-mul-words-7
 mul-words-7 c = search needs
 
 slice-write-words-7 : tie.Need-slice-write-words-7
-slice-write-words-7 c = below-writes (c .before .before .args .words .now) (take 6 (wordsAt (c .before .before .args .at) (c .before .before .args .e))) (c .before .before .args .at * 9 + 6) (omega arith)
+slice-write-words-7 c = simp length-set (omega arith)
 
 mul-charge : tie.Need-mul-charge
 mul-charge c = search needs
@@ -92,7 +89,7 @@ mul-usage : tie.Need-mul-usage
 mul-usage c = search needs
 
 slice-set-from-usage : tie.Need-slice-set-from-usage
-slice-set-from-usage c = below-writes (c .before .before .args .amounts .now) ((c .before .before .args .at * 2, toZ w64 (ofZ w64 (c .before .before .args .e .charge))) ∷ []) (c .before .before .args .at * 2 + 1) (omega arith)
+slice-set-from-usage c = simp length-set (omega arith)
 
 add-words-7 : tie.Need-add-words-7
 add-words-7 c = search needs
@@ -101,7 +98,7 @@ mul-words-8 : tie.Need-mul-words-8
 mul-words-8 c = search needs
 
 slice-write-words-8 : tie.Need-slice-write-words-8
-slice-write-words-8 c = below-writes (c .before .before .args .words .now) (take 7 (wordsAt (c .before .before .args .at) (c .before .before .args .e))) (c .before .before .args .at * 9 + 7) (omega arith)
+slice-write-words-8 c = simp length-set (omega arith)
 
 add-words-8 : tie.Need-add-words-8
 add-words-8 c = search needs
@@ -110,10 +107,10 @@ mul-words-9 : tie.Need-mul-words-9
 mul-words-9 c = search needs
 
 slice-write-words-9 : tie.Need-slice-write-words-9
-slice-write-words-9 c = below-writes (c .before .before .args .words .now) (take 8 (wordsAt (c .before .before .args .at) (c .before .before .args .e))) (c .before .before .args .at * 9 + 8) (omega arith)
+slice-write-words-9 c = simp length-set (omega arith)
 
 same-length : tie.Need-same-length
-same-length c = length-writes (c .before .before .args .words .now) (wordsAt (c .before .before .args .at) (c .before .before .args .e))
+same-length c = simp length-set
 
 same-length-2 : tie.Need-same-length-2
 same-length-2 c = search needs

@@ -46,14 +46,14 @@ is-faulty-requires : tie.Need-is-faulty-requires Inv-loop μ-loop
 is-faulty-requires c κs =
     let p = c .before .before .before .before .before in
     let sizes = sizes-mean (p .args .places) (p .args .used) .0 (fit (c .before .before)) in
-    (omega (arith, sizes, p .pre .0), omega (arith, sizes, p .pre .1), c .loop-test .taken)
+    (omega (arith, sizes, p .pre .0), omega (arith, sizes, p .pre .1), omega (arith, c .loop-test .taken))
 
 returns-2 : tie.Need-returns-2 Inv-loop μ-loop
 returns-2 c =
     let p = c .before .before .before .before .before .before .before in
     let a = p .args in
     let i = c .before .before .before .loop .i in
-    let less : i < a .used = c .before .before .loop-test .taken in
+    let less : i < a .used = omega (arith, c .before .before .loop-test .taken) in
     sym (ap not (found-some (faulty p) (a .used) i less (searched-here (faulty p) (a .used) i less (c .before .before .before .loop .inv .1) (sym (c .before .is-faulty .ensures) ∙ c .if2 .taken))))
     ∙ sound-scan (now (a .words)) (now (a .amounts)) (a .places) (a .used) (fit (c .before .before .before .before))
 
@@ -68,7 +68,7 @@ loop-again c =
     let p = c .before .before .before .before .before .before .before in
     let a = p .args in
     let i = c .before .before .before .loop .i in
-    let less : i < a .used = c .before .before .loop-test .taken in
+    let less : i < a .used = omega (arith, c .before .before .loop-test .taken) in
     (omega (arith, less), searched-more (faulty p) (a .used) i less (c .before .before .before .loop .inv .1) (sym (c .before .is-faulty .ensures) ∙ c .if2 .left))
 
 returns-3 : tie.Need-returns-3 Inv-loop μ-loop

@@ -1,0 +1,119 @@
+//! Ledgers: sound ones, ones with a single fault, and ones with an entry changed at random. Soundness, Totals and Find of each.
+
+use crate::tally::Tally;
+use compare::proved::Words;
+use reference::generate::scenario::SENTENCES;
+use reference::generate::{Generator, Style, DISTRIBUTOR};
+use reference::ledger::{find, first_broken, sound, totals, Entry, Totals};
+use std::collections::BTreeMap;
+
+/// So many ledgers are made to break each sentence first.
+const BROKEN_FOR_EACH: usize = 220;
+
+const SOUND: usize = 400;
+
+/// So many changes are tried on each sound ledger.
+const CHANGES: usize = 50;
+
+struct Comparison {
+    tally: Tally,
+    words: Words,
+    /// How often each sentence was the first broken.
+    broken: BTreeMap<String, u64>,
+}
+
+impl Comparison {
+    fn hold(&mut self, run: &[Entry], used: usize, asked: &[(u64, u64)]) {
+        self.words.fill(run);
+        let expected = sound(run, used);
+        self.tally.hold("soundness", &(run, used), self.words.sound(run.len(), used), expected, expected);
+        if let Some(sentence) = first_broken(run, used) {
+            *self.broken.entry(format!("{sentence:?}")).or_insert(0) += 1;
+        }
+        self.hold_totals(run, used);
+        for &(site, day) in asked {
+            let expected = find(run, used, site, day).map_err(|refusal| refusal.number);
+            let proved = self.words.find(run.len(), used, site, day);
+            assert!(proved == expected, "find {site} {day} in {run:?}, {used}: proved {proved:?}, reference {expected:?}");
+        }
+    }
+
+    fn hold_totals(&self, run: &[Entry], used: usize) {
+        let expected: Result<Totals, u32> = totals(run, used).map_err(|refusal| refusal.number);
+        let proved = self.words.totals(run.len(), used);
+        assert!(proved == expected, "totals of {run:?}, {used}: proved {proved:?}, reference {expected:?}");
+    }
+}
+
+/// Sites and days to ask for: those at the ends of a stored period, and ones out of range.
+fn questions(generator: &mut Generator, run: &[Entry], used: usize) -> Vec<(u64, u64)> {
+    let mut asked = vec![(10_000_000_000_000, 0), (0, 36_525), (9_999_999_999_999, 36_524)];
+    for _ in 0..4 {
+        if used == 0 || used > run.len() {
+            break;
+        }
+        let entry = run[generator.random.place(used)];
+        asked.extend([(entry.site, entry.start), (entry.site, entry.end), (entry.site, entry.end + 1), (entry.site, entry.start.wrapping_sub(1))]);
+    }
+    asked
+}
+
+/// Changes one field of one entry, or the order of two.
+fn change(generator: &mut Generator, run: &mut [Entry], used: usize) {
+    let random = &mut generator.random;
+    let place = random.place(used);
+    let other = run[random.place(used)];
+    let entry = &mut run[place];
+    match random.below(14) {
+        0 => entry.sender = random.pick(&[other.sender, 9_999, 10_000]),
+        1 => entry.commodity = random.below(4),
+        2 => entry.kind = random.below(5),
+        3 => entry.record_id = random.pick(&[other.record_id, entry.record_id + 1, 1_000_000_000_000_000]),
+        4 => entry.site = random.pick(&[0, other.site, 10_000_000_000_000]),
+        5 => entry.start = random.pick(&[0, other.start, entry.end, entry.end + 1]),
+        6 => entry.end = random.pick(&[0, other.end, entry.start, 36_525]),
+        7 => entry.charge = random.pick(&[0, -entry.charge, other.charge, i64::MIN, 1_000_000_000_000_000]),
+        8 => entry.usage = random.pick(&[0, 1, -entry.usage, i64::MIN, -1_000_000_000_000_000]),
+        9 => entry.state = random.below(6),
+        10 => entry.cancelled_id = random.pick(&[0, other.record_id, entry.record_id]),
+        11 => *entry = other,
+        _ => run.swap(place, next_place(used, place)),
+    }
+}
+
+/// The place after this one, or the first.
+fn next_place(used: usize, place: usize) -> usize {
+    (place + 1) % used
+}
+
+/// Compares the calls that read a ledger, and answers how many ledgers there were.
+pub fn compare(seed: u64) -> u64 {
+    let mut comparison = Comparison { tally: Tally::new(), words: Words::new(), broken: BTreeMap::new() };
+    let mut generator = Generator::with_senders(seed, Style::Varied, &[DISTRIBUTOR, 41]);
+    comparison.hold(&[], 0, &[(0, 0)]);
+    for count in 0..SOUND {
+        let (run, used) = generator.ledger(200, 1 + count % 12);
+        let asked = questions(&mut generator, &run, used);
+        comparison.hold(&run, used, &asked);
+        comparison.hold(&run[..used], used, &asked);
+        for _ in 0..if used == 0 { 0 } else { CHANGES } {
+            let mut changed = run.clone();
+            change(&mut generator, &mut changed, used);
+            let asked = questions(&mut generator, &changed, used);
+            comparison.hold(&changed, used, &asked);
+        }
+    }
+    for sentence in SENTENCES {
+        for _ in 0..BROKEN_FOR_EACH {
+            let (run, used) = generator.unsound(sentence);
+            comparison.hold(&run, used, &[(0, 0)]);
+        }
+    }
+    for sentence in SENTENCES {
+        let met = comparison.broken.get(&format!("{sentence:?}")).copied().unwrap_or(0);
+        assert!(met >= 200, "{sentence:?} was the first broken only {met} times");
+    }
+    let broken: Vec<String> = comparison.broken.iter().map(|(sentence, count)| format!("{sentence}: {count}")).collect();
+    println!("first broken {}", broken.join(", "));
+    comparison.tally.report("ledgers")
+}
