@@ -78,7 +78,11 @@ pub extern "C" fn ledger_total(
     match ledger::totals_of(words, amounts, places, used) {
         Totals::Unsound => 0,
         Totals::Of(live, held) => {
-            if state == 1 { amount_of(live, which) } else { amount_of(held, which) }
+            if state == 1 {
+                amount_of(live, which)
+            } else {
+                amount_of(held, which)
+            }
         }
     }
 }
