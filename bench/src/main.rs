@@ -1,64 +1,131 @@
-//! Check of passing files, proved beside the reference implementation, in one run: medians of 11, each run on a fresh file.
+//! Check and the soundness of ledgers, the proved functions beside the reference implementation.
+//!
+//! `cargo run --release --offline` times both sides in one run: medians of 11, each on a fresh input, and their ratios.
+//!
+//! `cargo run --release --offline -- profile SIDE N` calls one side N times on one input and prints nothing, for a profiler. SIDE
+//! is `proved-check` or `reference-check` (a file of 4,096 lines), `proved-soundness` or `reference-soundness` (a ledger of 8,192
+//! entries). The instructions of a call are those of N = 11 without those of N = 1, divided by 10:
+//! `valgrind --tool=callgrind target/release/bench profile reference-check 11`.
+
+mod files;
+mod ledgers;
+mod longest;
+mod timing;
 
 use compare::proved;
-use reference::bill::Commodity;
+use files::{Files, Ids};
+use ledgers::Ledgers;
 use reference::check::check;
-use reference::generate::{Generator, Request, Style, RETAILER};
+use reference::generate::RETAILER;
+use reference::ledger::{sound, Entry};
 use std::hint::black_box;
-use std::time::Instant;
+use timing::{medians, report, report_growth, Medians};
 
-const RUNS: usize = 11;
 const DISTRIBUTORS: &[u8] = b"0040";
 
-/// The time of one call, in microseconds.
-fn timed<T>(call: impl FnOnce() -> T) -> f64 {
-    let start = Instant::now();
-    black_box(call());
-    start.elapsed().as_secs_f64() * 1e6
+const LINES: [usize; 3] = [256, 1_024, 4_096];
+
+const ENTRIES: [usize; 3] = [1_000, 4_000, 8_192];
+
+/// The number and line of a passing file.
+const PASSES: (u32, u32) = (0, 0);
+
+fn reference_check(file: &[u8]) -> (u32, u32) {
+    check(RETAILER, DISTRIBUTORS, file)
 }
 
-fn median(mut times: Vec<f64>) -> f64 {
-    times.sort_by(f64::total_cmp);
-    times[times.len() / 2]
+fn proved_check(file: &[u8]) -> (u32, u32) {
+    proved::check(RETAILER, DISTRIBUTORS, file)
 }
 
-struct Timing {
-    proved: f64,
-    reference: f64,
+fn check_medians(draw: impl FnMut() -> Vec<u8>, expected: (u32, u32)) -> Medians {
+    medians(draw, expected, |file| proved_check(file), |file| reference_check(file))
 }
 
-/// Times both sides on each file, one after the other.
-fn compare_on(files: &[Vec<u8>]) -> Timing {
-    let mut proved_times = Vec::new();
-    let mut reference_times = Vec::new();
-    for file in files {
-        assert_eq!(check(RETAILER, DISTRIBUTORS, file), (0, 0));
-        assert_eq!(proved::check(RETAILER, DISTRIBUTORS, file), (0, 0));
-        proved_times.push(timed(|| proved::check(RETAILER, DISTRIBUTORS, black_box(file))));
-        reference_times.push(timed(|| check(RETAILER, DISTRIBUTORS, black_box(file))));
+/// Times files of each number of lines, and answers the medians.
+fn report_lines(what: &str, mut draw: impl FnMut(usize) -> Vec<u8>) -> [Medians; 3] {
+    LINES.map(|lines| {
+        let medians = check_medians(|| draw(lines), PASSES);
+        report(&format!("check, {lines} lines, {what}"), &medians);
+        medians
+    })
+}
+
+fn report_checks() {
+    let mut files = Files::new();
+    let kinds = [("IDs rising", Ids::Rising), ("IDs random", Ids::Random), ("IDs in one bucket", Ids::OneBucket)];
+    let mut growths = Vec::new();
+    for (ids, kind) in kinds {
+        let what = format!("many sites, {ids}");
+        growths.push((what.clone(), report_lines(&what, |lines| files.many_sites(lines, kind))));
     }
-    Timing { proved: median(proved_times), reference: median(reference_times) }
+    let what = "one site with a thousand periods in 4096 lines";
+    growths.push((what.to_owned(), report_lines(what, |lines| files.one_site(lines, lines * 1_000 / 4_096))));
+    report("check, 4096 lines, all fields as long as they may be", &check_medians(|| files.longest_fields(), PASSES));
+    report("check, 4096 lines, 1048576 bytes, refused by test 3 at line 4095", &check_medians(|| files.most_bytes(), (3, 4_095)));
+    for (what, [_, smaller, larger]) in growths {
+        report_growth(&format!("check, from 1024 to 4096 lines, {what}"), &smaller, &larger);
+    }
 }
 
-fn report(what: &str, timing: &Timing) {
-    println!("{what}: proved {:.0} us, reference {:.0} us, ratio {:.2}", timing.proved, timing.reference, timing.proved / timing.reference);
+/// A ledger for both sides.
+struct Ledger {
+    run: Vec<Entry>,
+    words: proved::Words,
+}
+
+fn reference_sound(ledger: &Ledger) -> bool {
+    sound(&ledger.run, ledger.run.len())
+}
+
+fn proved_sound(ledger: &Ledger) -> bool {
+    ledger.words.sound(ledger.run.len(), ledger.run.len())
+}
+
+fn draw_ledger(ledgers: &mut Ledgers, entries: usize) -> Ledger {
+    let run = ledgers.full(entries);
+    let mut words = proved::Words::new();
+    words.fill(&run);
+    Ledger { run, words }
+}
+
+fn report_soundness() {
+    let mut ledgers = Ledgers::new();
+    let [smallest, _, largest] = ENTRIES.map(|entries| {
+        let medians = medians(|| draw_ledger(&mut ledgers, entries), true, proved_sound, reference_sound);
+        report(&format!("soundness, {entries} entries"), &medians);
+        medians
+    });
+    report_growth("soundness, from 1000 to 8192 entries", &smallest, &largest);
+}
+
+/// Calls one side so many times on one input.
+fn profile(side: &str, calls: usize) {
+    let file = || Files::new().many_sites(4_096, Ids::Rising);
+    let ledger = || draw_ledger(&mut Ledgers::new(), 8_192);
+    match side {
+        "proved-check" => repeat(calls, &file(), |file| proved_check(file)),
+        "reference-check" => repeat(calls, &file(), |file| reference_check(file)),
+        "proved-soundness" => repeat(calls, &ledger(), proved_sound),
+        "reference-soundness" => repeat(calls, &ledger(), reference_sound),
+        _ => panic!("no side is called {side}"),
+    }
+}
+
+fn repeat<Input, Answer>(calls: usize, input: &Input, call: impl Fn(&Input) -> Answer) {
+    for _ in 0..calls {
+        black_box(call(black_box(input)));
+    }
 }
 
 fn main() {
-    let mut generator = Generator::new(3, Style::Sample);
-    let request = Request { sender: 0, commodity: Commodity::Electricity, sites: 1, periods: 1, one_time_sites: 0, cancels: 0 };
-    let mut timings = Vec::new();
-    for lines in [256, 1_024, 4_096] {
-        let files: Vec<Vec<u8>> = (0..RUNS).map(|_| generator.valid_of_lines(&request, lines).plain_bytes()).collect();
-        let timing = compare_on(&files);
-        report(&format!("check, {lines} lines, {} bytes", files[0].len()), &timing);
-        timings.push(timing);
+    let arguments: Vec<String> = std::env::args().skip(1).collect();
+    match &arguments[..] {
+        [] => {
+            report_checks();
+            report_soundness();
+        }
+        [command, side, calls] if command == "profile" => profile(side, calls.parse().expect("N is a number")),
+        _ => panic!("usage: bench [profile SIDE N]"),
     }
-    println!(
-        "from 1,024 to 4,096 lines: proved grows {:.1}-fold, reference {:.1}-fold",
-        timings[2].proved / timings[1].proved,
-        timings[2].reference / timings[1].reference
-    );
-    let files: Vec<Vec<u8>> = (0..RUNS).map(|_| generator.valid_of_lines(&Request { periods: 500, ..request }, 4_096).plain_bytes()).collect();
-    report("check, 4096 lines, sites of 500 periods", &compare_on(&files));
 }

@@ -1,9 +1,7 @@
-//! A file's records as numbers, read once its fields are known to fit their
-//! types and its mandatory fields to be filled (tests 2 to 7).
+//! A file's records as numbers, each field read once.
 
-use crate::calendar::day_of;
-use crate::fields::{amount_of, fixed_digits, identifier_of, Amount, FieldType};
-use crate::file::{Record, RecordType, Records};
+use crate::fields::{fixed_digits, value_of};
+use crate::file::{Record, RecordType, Records, MOST_FIELDS};
 use crate::periods::Period;
 
 /// "commodity (1 EL, 2 NG)".
@@ -42,12 +40,14 @@ impl Commodity {
     }
 }
 
-/// What the tests from 9 on read of a record.
+/// What the tests from 4 on read of a record.
 #[derive(Clone, Debug)]
 pub struct Row {
     /// The type.
     pub record_type: RecordType,
-    /// The Record ID.
+    /// Which fields are filled: a bit for each, the first field's the lowest.
+    pub filled: u32,
+    /// The Record ID, 0 if it is empty, which test 5 forbids.
     pub record_id: u64,
     /// The Parent ID; FH has none.
     pub parent_id: Option<u64>,
@@ -78,6 +78,11 @@ impl Row {
     pub fn has_charge_amount(&self) -> bool {
         matches!(self.record_type, RecordType::TariffCharge | RecordType::OneTimeCharge)
     }
+
+    /// Whether the record has a Usage Amount (DU) or a Charge Amount.
+    pub fn has_amount(&self) -> bool {
+        self.record_type == RecordType::UsageDeterminant || self.has_charge_amount()
+    }
 }
 
 /// A file's header and records as numbers.
@@ -98,14 +103,19 @@ pub struct Bill<'file> {
 impl<'file> Bill<'file> {
     /// Reads records that pass tests 2 to 7. None if they don't.
     pub fn of(records: &Records<'file>) -> Option<Self> {
-        let header = records.iter().next()?;
-        let trailer = records.iter().last()?;
+        Self::with_rows(records, rows_of(records).ok()?)
+    }
+
+    /// The bill of records that pass tests 2 to 7 and of their rows. None if
+    /// they don't.
+    pub(crate) fn with_rows(records: &Records<'file>, rows: Vec<Row>) -> Option<Self> {
+        let (header, trailer) = (records.first()?, records.last()?);
         Some(Bill {
-            retailer: fixed_digits(header.field(4), 9)?,
+            retailer: Values::of(&header)?.get(Some(4))? as u64,
             sender: header.field(5),
             commodity: Commodity::of_code(header.field(6))?,
-            record_count: amount(&trailer, Some(4)),
-            rows: rows_of(records)?,
+            record_count: Values::of(&trailer)?.get(Some(4))?,
+            rows,
         })
     }
 
@@ -120,46 +130,66 @@ impl<'file> Bill<'file> {
     }
 }
 
-fn rows_of(records: &Records) -> Option<Vec<Row>> {
+/// The rows of a file's records, or the place of the first record that fails
+/// test 3: "every field that isn't empty fits its type."
+pub(crate) fn rows_of(records: &Records) -> Result<Vec<Row>, usize> {
     let mut rows = Vec::with_capacity(records.len());
     let mut nearest = [None; 9];
     for (place, record) in records.iter().enumerate() {
         let parent = record.record_type.parent().and_then(|parent| nearest[parent as usize]);
-        rows.push(row_of(&record, parent)?);
+        rows.push(row_of(&record, parent).ok_or(place)?);
         nearest[record.record_type as usize] = Some(place);
     }
-    Some(rows)
+    Ok(rows)
 }
 
+/// The row of a record, unless a field misses its type.
 fn row_of(record: &Record, parent: Option<usize>) -> Option<Row> {
     let record_type = record.record_type;
-    let numbered = |number: Option<usize>| number.map(|number| record.field(number));
+    let values = Values::of(record)?;
+    let number = |number: Option<usize>| values.get(number).map(|value| value as u64);
+    let indicator = record_type.cancel_indicator_field();
     Some(Row {
         record_type,
-        record_id: identifier_of(record.field(1))?,
-        parent_id: identifier_of(record.field(2)),
+        filled: values.filled,
+        record_id: number(Some(1)).unwrap_or_default(),
+        parent_id: number(Some(2)),
         parent,
-        site: numbered(record_type.site_field()).and_then(|site| fixed_digits(site, 13)),
-        period: record_type.period_fields().and_then(|(start, end)| {
-            let day = |number: usize| day_of(record.field(number)).map(u64::from);
-            Some((day(start)?, day(end)?))
-        }),
-        is_cancel: numbered(record_type.cancel_indicator_field()) == Some(b"Y"),
-        reference: numbered(record_type.reference_field()).and_then(identifier_of),
-        usage: amount(record, record_type.usage_field()),
-        charge: amount(record, record_type.charge_field()),
+        site: number(record_type.site_field()),
+        period: record_type
+            .period_fields()
+            .and_then(|(start, end)| number(Some(start)).zip(number(Some(end)))),
+        is_cancel: indicator.is_some_and(|number| record.field(number) == b"Y"),
+        reference: number(record_type.reference_field()),
+        usage: values.get(record_type.usage_field()).unwrap_or_default(),
+        charge: values.get(record_type.charge_field()).unwrap_or_default(),
     })
 }
 
-/// The amount in a field of this number, 0 if the type has no such field.
-fn amount(record: &Record, number: Option<usize>) -> i64 {
-    let Some(number) = number else { return 0 };
-    let FieldType::Number(precision, places) = record.record_type.fields()[number - 1].field_type
-    else {
-        return 0;
-    };
-    match amount_of(record.field(number), precision, places) {
-        Amount::Value(units) => units,
-        Amount::Misses => 0,
+/// The values of a record's fields.
+struct Values {
+    /// Which fields are filled: a bit for each, the first field's the lowest.
+    filled: u32,
+    values: [i64; MOST_FIELDS],
+}
+
+impl Values {
+    /// Reads the fields of a record, unless one misses its type.
+    fn of(record: &Record) -> Option<Self> {
+        let mut read = Values { filled: 0, values: [0; MOST_FIELDS] };
+        for (place, (description, field)) in record.described_fields().enumerate() {
+            if !field.is_empty() {
+                read.values[place] = value_of(description.field_type, field)?;
+                read.filled |= 1 << place;
+            }
+        }
+        Some(read)
+    }
+
+    /// The value of the field of a number, if the type has it and it is
+    /// filled.
+    fn get(&self, number: Option<usize>) -> Option<i64> {
+        let place = number? - 1;
+        (self.filled >> place & 1 == 1).then(|| self.values[place])
     }
 }

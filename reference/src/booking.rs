@@ -4,7 +4,7 @@
 use std::collections::BTreeMap;
 
 use crate::bill::{Bill, Row};
-use crate::check::{validate_limits, validated_bill, Refusal, Settings};
+use crate::check::{validated_bill, Refusal, Settings};
 use crate::file::RecordType;
 use crate::hashing::id_set;
 use crate::ledger::{kind, state, Entry, Ledger, LivePeriods, Places};
@@ -48,7 +48,6 @@ fn try_book(
 ) -> Result<(usize, usize), Refusal> {
     settings.validate()?;
     let ledger = Ledger::of(run, used).ok_or(Refusal::house(105))?;
-    validate_limits(file)?;
     let bill = validated_bill(settings, file)?;
     let booking = Booking::of(&bill);
     booking.file_is_new(run, &ledger.places)?;

@@ -11,18 +11,36 @@ pub const LAST_DAY: u32 = 36_524;
 const FIRST_YEAR: u32 = 2000;
 const LAST_YEAR: u32 = 2099;
 
+/// "The day number of the first of each of these 1,200 months is a table."
+/// Here with the first of the month after them.
+static FIRST_DAYS: [u32; MONTHS + 1] = first_days();
+
+const MONTHS: usize = 1_200;
+
+const fn first_days() -> [u32; MONTHS + 1] {
+    let mut first_days = [0; MONTHS + 1];
+    let mut place = 0;
+    while place < MONTHS {
+        let (year, month) = (FIRST_YEAR + place as u32 / 12, place as u32 % 12 + 1);
+        first_days[place + 1] = first_days[place] + month_length(year, month);
+        place += 1;
+    }
+    first_days
+}
+
 /// The day number of a date: "A date is eight digits, YYYYMMDD, years 2000 to
 /// 2099. Day 0 is 20000101." None if the bytes aren't a date.
 pub fn day_of(date: &[u8]) -> Option<u32> {
-    if date.len() != 8 {
+    let date: &[u8; 8] = date.try_into().ok()?;
+    let year = digits_value(&date[..4])? as u32;
+    let month = digits_value(&date[4..6])? as u32;
+    let day = digits_value(&date[6..])? as u32;
+    if !(FIRST_YEAR..=LAST_YEAR).contains(&year) || !(1..=12).contains(&month) {
         return None;
     }
-    let digits = digits_value(date)? as u32;
-    let (year, month, day) = (digits / 10_000, digits / 100 % 100, digits % 100);
-    let in_calendar = (FIRST_YEAR..=LAST_YEAR).contains(&year)
-        && (1..=12).contains(&month)
-        && (1..=month_length(year, month)).contains(&day);
-    in_calendar.then(|| days_since_era(year, month, day) - days_since_era(FIRST_YEAR, 1, 1))
+    let place = ((year - FIRST_YEAR) * 12 + month - 1) as usize;
+    let (first, next) = (FIRST_DAYS[place], FIRST_DAYS[place + 1]);
+    (1..=next - first).contains(&day).then(|| first + day - 1)
 }
 
 /// The day number and the second of the day of a date time: "A date time is a
@@ -41,12 +59,9 @@ pub fn date_of(day: u32) -> Option<String> {
     if day > LAST_DAY {
         return None;
     }
-    let (mut year, mut month, mut rest) = (FIRST_YEAR, 1, day);
-    while rest >= month_length(year, month) {
-        rest -= month_length(year, month);
-        (year, month) = if month == 12 { (year + 1, 1) } else { (year, month + 1) };
-    }
-    Some(format!("{year:04}{month:02}{:02}", rest + 1))
+    let place = FIRST_DAYS.partition_point(|&first| first <= day) - 1;
+    let (year, month) = (FIRST_YEAR + place as u32 / 12, place % 12 + 1);
+    Some(format!("{year:04}{month:02}{:02}", day - FIRST_DAYS[place] + 1))
 }
 
 /// The second of the day of six digits HHMMSS.
@@ -57,7 +72,7 @@ fn second_of(time: &[u8]) -> Option<u32> {
 }
 
 /// The number of days of a month of the Gregorian calendar.
-fn month_length(year: u32, month: u32) -> u32 {
+const fn month_length(year: u32, month: u32) -> u32 {
     match month {
         2 if is_leap(year) => 29,
         2 => 28,
@@ -68,18 +83,8 @@ fn month_length(year: u32, month: u32) -> u32 {
 
 /// Every fourth year is a leap year, but of the full centuries only every
 /// fourth.
-fn is_leap(year: u32) -> bool {
+const fn is_leap(year: u32) -> bool {
     year.is_multiple_of(4) && (!year.is_multiple_of(100) || year.is_multiple_of(400))
-}
-
-/// The number of days from 1 March of the year 0 to a date of the Gregorian
-/// calendar. Years are taken to begin in March, so that the leap day comes
-/// last; from March on, five months have 153 days.
-fn days_since_era(year: u32, month: u32, day: u32) -> u32 {
-    let (year, months_since_march) =
-        if month < 3 { (year - 1, month + 9) } else { (year, month - 3) };
-    let leap_days = year / 4 - year / 100 + year / 400;
-    365 * year + leap_days + (153 * months_since_march + 2) / 5 + day - 1
 }
 
 #[cfg(test)]

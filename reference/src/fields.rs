@@ -42,17 +42,26 @@ pub enum FieldType {
 /// Whether a field fits its type. Test 3 asks it of "every field that isn't
 /// empty", so the empty field fits every type.
 pub fn fits(field_type: FieldType, field: &[u8]) -> bool {
-    if field.is_empty() {
-        return true;
-    }
+    field.is_empty() || value_of(field_type, field).is_some()
+}
+
+/// The value of a field that isn't empty: of an ID or digits the number, of a
+/// date its day, of an amount its units, of other types 0. None if the field
+/// misses its type.
+pub fn value_of(field_type: FieldType, field: &[u8]) -> Option<i64> {
     match field_type {
-        FieldType::RecordId => identifier_of(field).is_some(),
-        FieldType::Digits(count) => field.len() == count && field.iter().all(u8::is_ascii_digit),
-        FieldType::Number(precision, places) => is_number(field, precision, places),
-        FieldType::Date => day_of(field).is_some(),
-        FieldType::DateTime => moment_of(field).is_some(),
-        FieldType::Char(length) => field.len() == length,
-        FieldType::Varchar(length) => field.len() <= length,
+        FieldType::RecordId => identifier_of(field).map(|id| id as i64),
+        FieldType::Digits(count) => fixed_digits(field, count).map(|number| number as i64),
+        FieldType::Number(precision, places) if precision > AMOUNT_PRECISION => {
+            is_number(field, precision, places).then_some(0)
+        }
+        FieldType::Number(precision, places) => {
+            Number::of(field, precision, places).map(Number::units)
+        }
+        FieldType::Date => day_of(field).map(i64::from),
+        FieldType::DateTime => moment_of(field).map(|_| 0),
+        FieldType::Char(length) => (field.len() == length).then_some(0),
+        FieldType::Varchar(length) => (field.len() <= length).then_some(0),
     }
 }
 
@@ -68,7 +77,7 @@ pub fn amount_of(field: &[u8], precision: u32, places: u32) -> Amount {
         return Amount::Misses;
     }
     match Number::of(field, precision, places) {
-        Some(number) => Amount::Value(number.in_units(places)),
+        Some(number) => Amount::Value(number.units()),
         None => Amount::Misses,
     }
 }
@@ -100,57 +109,79 @@ pub fn fixed_digits(field: &[u8], count: usize) -> Option<u64> {
 /// At most 19 digits, so that the value fits.
 pub(crate) fn digits_value(digits: &[u8]) -> Option<u64> {
     debug_assert!(digits.len() <= 19);
-    if digits.is_empty() {
-        return None;
+    let (value, rest) = leading_digits(0, digits);
+    (rest.is_empty() && !digits.is_empty()).then_some(value)
+}
+
+/// The value of a number followed by the digits at the start of some bytes,
+/// and the bytes after them. From 20 digits on the value is of no use.
+fn leading_digits(number: u64, bytes: &[u8]) -> (u64, &[u8]) {
+    let mut value = number;
+    for (place, byte) in bytes.iter().enumerate() {
+        let digit = byte.wrapping_sub(b'0');
+        if digit > 9 {
+            return (value, &bytes[place..]);
+        }
+        value = value.wrapping_mul(10).wrapping_add(u64::from(digit));
     }
-    digits.iter().try_fold(0, |value, byte| {
-        byte.is_ascii_digit().then(|| value * 10 + u64::from(byte - b'0'))
-    })
+    (value, &[])
 }
 
-/// The parts of a Number(p,s): "an optional minus, 1 to p - s digits, then
-/// optionally a point and 1 to s digits".
-struct Number<'a> {
+/// The powers of ten that scale amounts.
+const POWERS_OF_TEN: [i64; AMOUNT_PRECISION as usize + 1] = {
+    let mut powers = [1; AMOUNT_PRECISION as usize + 1];
+    let mut exponent = 1;
+    while exponent < powers.len() {
+        powers[exponent] = powers[exponent - 1] * 10;
+        exponent += 1;
+    }
+    powers
+};
+
+/// A Number(p,s): "an optional minus, 1 to p - s digits, then optionally a
+/// point and 1 to s digits".
+#[derive(Clone, Copy)]
+struct Number {
     negative: bool,
-    whole: &'a [u8],
-    fraction: &'a [u8],
+    /// The value of the digits before and after the point.
+    digits: u64,
+    /// How many digits it could have more after the point.
+    places_left: usize,
 }
 
-impl<'a> Number<'a> {
-    /// The parts of a field that has the shape of a Number(p,s).
-    fn of(field: &'a [u8], precision: u32, places: u32) -> Option<Self> {
-        let whole_digits = precision.checked_sub(places)? as usize;
-        let (negative, unsigned) = match field.split_first() {
-            Some((b'-', unsigned)) => (true, unsigned),
+impl Number {
+    /// The number in a field that has the shape of a Number(p,s).
+    fn of(field: &[u8], precision: u32, places: u32) -> Option<Self> {
+        let (most_whole, places) = (precision.checked_sub(places)? as usize, places as usize);
+        let (negative, unsigned) = match field {
+            [b'-', unsigned @ ..] => (true, unsigned),
             _ => (false, field),
         };
-        let (whole, fraction) = match unsigned.iter().position(|&byte| byte == b'.') {
-            Some(point) => (&unsigned[..point], Some(&unsigned[point + 1..])),
-            None => (unsigned, None),
-        };
-        let fits = is_digit_run(whole, whole_digits)
-            && fraction.is_none_or(|fraction| is_digit_run(fraction, places as usize));
-        fits.then_some(Number { negative, whole, fraction: fraction.unwrap_or_default() })
+        let (whole, rest) = leading_digits(0, unsigned);
+        if !(1..=most_whole).contains(&(unsigned.len() - rest.len())) {
+            return None;
+        }
+        match rest {
+            [] => Some(Number { negative, digits: whole, places_left: places }),
+            [b'.', fraction @ ..] if (1..=places).contains(&fraction.len()) => {
+                let (digits, rest) = leading_digits(whole, fraction);
+                let places_left = places - fraction.len();
+                rest.is_empty().then_some(Number { negative, digits, places_left })
+            }
+            _ => None,
+        }
     }
 
     /// The number in units of its last place. "Minus zero is zero." Called for
     /// at most 15 digits, so that the units fit.
-    fn in_units(&self, places: u32) -> i64 {
-        let scale = places - self.fraction.len() as u32;
-        let digits = self.whole.iter().chain(self.fraction);
-        let magnitude = digits.fold(0, |value, digit| value * 10 + i64::from(digit - b'0'));
-        let units = magnitude * 10_i64.pow(scale);
+    fn units(self) -> i64 {
+        let units = self.digits as i64 * POWERS_OF_TEN[self.places_left];
         if self.negative {
             -units
         } else {
             units
         }
     }
-}
-
-/// Whether the bytes are 1 to `most` digits.
-fn is_digit_run(bytes: &[u8], most: usize) -> bool {
-    (1..=most).contains(&bytes.len()) && bytes.iter().all(u8::is_ascii_digit)
 }
 
 #[cfg(test)]

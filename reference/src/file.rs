@@ -265,6 +265,35 @@ const MAY_FOLLOW: [[bool; 9]; 9] = {
     ]
 };
 
+/// The Mandatory fields of each type, as bits.
+const MANDATORY_FIELDS: [u32; 9] = fields_marked(Mark::Mandatory);
+
+/// The fields of each type that must be empty, as bits.
+const NULL_FIELDS: [u32; 9] = fields_marked(Mark::MandatoryNull);
+
+/// The fields of each type that have a mark, as bits.
+const fn fields_marked(mark: Mark) -> [u32; 9] {
+    let mut marked = [0; 9];
+    let mut place = 0;
+    while place < RECORD_TYPES.len() {
+        marked[place] = bits_of_marked(RECORD_TYPES[place].fields(), mark);
+        place += 1;
+    }
+    marked
+}
+
+const fn bits_of_marked(fields: &[Field], mark: Mark) -> u32 {
+    let mut bits = 0;
+    let mut place = 0;
+    while place < fields.len() {
+        if fields[place].mark as u32 == mark as u32 {
+            bits |= 1 << place;
+        }
+        place += 1;
+    }
+    bits
+}
+
 impl RecordType {
     /// The record type code of Table A5-1.
     pub const fn code(self) -> &'static str {
@@ -312,6 +341,16 @@ impl RecordType {
             OneTimeCharge => &ONE_TIME_CHARGE,
             FileTrailer => &FILE_TRAILER,
         }
+    }
+
+    /// The Mandatory fields: a bit for each, the first field's the lowest.
+    pub const fn mandatory_fields(self) -> u32 {
+        MANDATORY_FIELDS[self as usize]
+    }
+
+    /// The fields that are called mandatory but must be empty, as bits.
+    pub const fn null_fields(self) -> u32 {
+        NULL_FIELDS[self as usize]
     }
 
     /// Whether a record of the other type may come right after one of this.
@@ -431,76 +470,111 @@ fn without_end(line: &[u8]) -> &[u8] {
 pub struct Record<'records, 'file> {
     /// The type in field 3.
     pub record_type: RecordType,
-    line: &'file [u8],
+    file: &'file [u8],
+    start: usize,
     ends: &'records [u32],
 }
 
 impl<'file> Record<'_, 'file> {
     /// The field of this number, counted from 1 as in Tables 4-2 to 4-10.
     pub fn field(&self, number: usize) -> &'file [u8] {
-        let start = if number == 1 { 0 } else { self.ends[number - 2] as usize + 1 };
-        &self.line[start..self.ends[number - 1] as usize]
+        let start = if number == 1 { self.start } else { self.ends[number - 2] as usize + 1 };
+        &self.file[start..self.ends[number - 1] as usize]
     }
 
     /// The fields with their rows of the type's table.
     pub fn described_fields(&self) -> impl Iterator<Item = (&'static Field, &'file [u8])> + '_ {
-        let mut start = 0;
+        let mut start = self.start;
         self.record_type.fields().iter().zip(self.ends).map(move |(description, &end)| {
-            let field = &self.line[start..end as usize];
+            let field = &self.file[start..end as usize];
             start = end as usize + 1;
             (description, field)
         })
     }
 }
 
+/// Why a file has no records.
+#[derive(Clone, Copy, Debug, PartialEq, Eq)]
+pub enum Unreadable {
+    /// "103 if the file exceeds its bytes or its lines".
+    TooLong,
+    /// The first line that fails test 2, counted from 1.
+    Line(usize),
+}
+
 /// The records of a file that passes test 2.
 pub struct Records<'file> {
-    heads: Vec<Head<'file>>,
-    /// Where in their lines the fields end, record after record.
+    file: &'file [u8],
+    heads: Vec<Head>,
+    /// Where in the file the fields end, record after record.
     ends: Vec<u32>,
 }
 
-/// A record's type, its line, and where the ends of its fields begin.
-struct Head<'file> {
+/// A record's type, where its line begins, and where the ends of its fields
+/// begin.
+struct Head {
     record_type: RecordType,
-    line: &'file [u8],
-    first_end: usize,
+    start: u32,
+    first_end: u32,
 }
 
+/// No record has more fields.
+pub const MOST_FIELDS: usize = TARIFF_CHARGE.len();
+
 impl<'file> Records<'file> {
-    /// The records of a file, or the first line that fails test 2: "every byte
+    /// The records of a file within its limits that passes test 2: "every byte
     /// within a line is 32 to 126; field 3 is a known type; the field count is
     /// its table's. An empty line fails. A file of no bytes fails at line 1."
-    pub fn of(file: &'file [u8]) -> Result<Self, usize> {
-        if file.is_empty() {
-            return Err(1);
-        }
+    pub fn of(file: &'file [u8]) -> Result<Self, Unreadable> {
         let line_count = line_count(file);
-        let mut records = Records {
-            heads: Vec::with_capacity(line_count),
-            ends: Vec::with_capacity(line_count * LIKELY_FIELDS),
-        };
-        for (place, line) in lines(file).enumerate() {
-            records.push(line).ok_or(place + 1)?;
+        if file.len() > MOST_BYTES || line_count > MOST_LINES {
+            return Err(Unreadable::TooLong);
         }
+        let mut records = Records {
+            file,
+            heads: Vec::with_capacity(line_count),
+            ends: Vec::with_capacity(line_count * MOST_FIELDS),
+        };
+        records.cut().ok_or(Unreadable::Line(records.heads.len() + 1))?;
         Ok(records)
     }
 
-    /// Adds the record of a line, if the line is one.
-    fn push(&mut self, line: &'file [u8]) -> Option<()> {
-        if !all_printable(line) {
+    /// Cuts the file into records, as far as its lines are records.
+    fn cut(&mut self) -> Option<()> {
+        let file = self.file;
+        let mut start = 0;
+        let mut first_end = 0;
+        for (place, &byte) in file.iter().enumerate() {
+            match byte {
+                b'-'..=b'~' => {}
+                b',' => self.ends.push(place as u32),
+                b'\n' => {
+                    let line = without_end(&file[start..=place]);
+                    self.ends.push((start + line.len()) as u32);
+                    self.push(start, first_end)?;
+                    (start, first_end) = (place + 1, self.ends.len());
+                }
+                b' '..=b'+' => {}
+                b'\r' if file.get(place + 1) == Some(&b'\n') => {}
+                _ => return None,
+            }
+        }
+        if start < file.len() || file.is_empty() {
+            self.ends.push(file.len() as u32);
+            self.push(start, first_end)?;
+        }
+        Some(())
+    }
+
+    /// Adds the record of a line whose fields are cut, if the line is one.
+    fn push(&mut self, start: usize, first_end: usize) -> Option<()> {
+        let ends = &self.ends[first_end..];
+        let &[_, second, third, ..] = ends else { return None };
+        let record_type = RecordType::of_code(&self.file[second as usize + 1..third as usize])?;
+        if ends.len() != record_type.fields().len() {
             return None;
         }
-        let commas = Commas::of(line);
-        let (second, third) = (commas.place(1)?, commas.place(2).unwrap_or(line.len()));
-        let record_type = RecordType::of_code(&line[second + 1..third])?;
-        if commas.count + 1 != record_type.fields().len() {
-            return None;
-        }
-        let first_end = self.ends.len();
-        self.ends.extend_from_slice(&commas.places[..commas.count]);
-        self.ends.push(line.len() as u32);
-        self.heads.push(Head { record_type, line, first_end });
+        self.heads.push(Head { record_type, start: start as u32, first_end: first_end as u32 });
         Some(())
     }
 
@@ -516,51 +590,24 @@ impl<'file> Records<'file> {
 
     /// The records in file order.
     pub fn iter(&self) -> impl Iterator<Item = Record<'_, 'file>> {
-        self.heads.iter().map(|&Head { record_type, line, first_end }| {
-            let ends = &self.ends[first_end..];
-            Record { record_type, line, ends: &ends[..record_type.fields().len()] }
-        })
-    }
-}
-
-/// The commas of a line: how many, and where the first of them are. No record
-/// has as many fields as there are places.
-struct Commas {
-    count: usize,
-    places: [u32; Commas::PLACES],
-}
-
-impl Commas {
-    /// A power of two above 24: "A record carries the places of its fields, at
-    /// most 24."
-    const PLACES: usize = 32;
-
-    /// Notes every place and keeps those of commas, without a branch, as
-    /// commas come at no foreseeable places.
-    fn of(line: &[u8]) -> Self {
-        let mut commas = Commas { count: 0, places: [0; Self::PLACES] };
-        for (place, &byte) in line.iter().enumerate() {
-            commas.places[commas.count % Self::PLACES] = place as u32;
-            commas.count += usize::from(byte == b',');
-        }
-        commas
+        self.heads.iter().map(|head| self.record(head))
     }
 
-    /// The place of the comma of this number, from 0, if there is one and it
-    /// is kept.
-    fn place(&self, number: usize) -> Option<usize> {
-        let is_kept = number < self.count && self.count < Self::PLACES;
-        is_kept.then(|| self.places[number] as usize)
+    /// The first record.
+    pub fn first(&self) -> Option<Record<'_, 'file>> {
+        self.heads.first().map(|head| self.record(head))
     }
-}
 
-/// More fields than an average line has.
-const LIKELY_FIELDS: usize = 18;
+    /// The last record.
+    pub fn last(&self) -> Option<Record<'_, 'file>> {
+        self.heads.last().map(|head| self.record(head))
+    }
 
-/// "every byte within a line is 32 to 126"; judged without leaving early, as
-/// nearly every line passes.
-fn all_printable(line: &[u8]) -> bool {
-    line.iter().fold(true, |all, byte| all & (32..=126).contains(byte))
+    fn record(&self, &Head { record_type, start, first_end }: &Head) -> Record<'_, 'file> {
+        let ends = &self.ends[first_end as usize..];
+        let ends = &ends[..record_type.fields().len()];
+        Record { record_type, file: self.file, start: start as usize, ends }
+    }
 }
 
 #[cfg(test)]

@@ -220,6 +220,24 @@ impl Generator {
         self.draft(request, &plans)
     }
 
+    /// A valid file of exactly so many lines and one site, the lines spread
+    /// evenly over the request's periods, at least 3 for each.
+    pub fn valid_of_one_site(&mut self, request: &Request, lines: usize) -> Draft {
+        let course = self.new_site(request);
+        let first_day = self.courses[course].next_day;
+        let mut plan = SitePlan::new(self.courses[course].site);
+        let lines_of_periods = lines - 3;
+        for number in 0..request.periods {
+            let one_more = usize::from(number < lines_of_periods % request.periods);
+            let lines = lines_of_periods / request.periods + one_more;
+            let days = self.next_days(request, course);
+            let body = self.content(request.commodity).period_of_lines(plan.site, days, lines);
+            plan.periods.push(Item { body, cancels: None });
+        }
+        plan.billing_period = Some((first_day, self.courses[course].next_day - 1));
+        self.draft(request, &[plan])
+    }
+
     /// Takes note that a file was accepted, so that later ones may cancel its
     /// originals.
     pub fn accept(&mut self, draft: &Draft) {

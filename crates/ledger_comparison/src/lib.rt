@@ -27,7 +27,7 @@ pub extern "C" fn ledger_sound(words: &[u64], amounts: &[i64], places: usize, us
     if !words_hold(words, amounts) {
         return 1;
     }
-    if soundness::is_sound(words, amounts, places, used) {
+    if soundness_certificate::is_sound(words, amounts, places, used) {
         return 0;
     }
     105

@@ -2,10 +2,10 @@
 -- A Site Header that chooses a period:
 --     no-header, header-of-another-site, header-without-start, header-without-end, starts-before-header, ends-after-header, chooses-by-end
 -- Two periods that share a day: shares-none, shares-by-last
--- Two periods that overlap: different-sites, first-no-original, second-no-original, no-shared-day, overlaps-by-header
+-- Two periods that overlap: different-sites, first-no-original, second-no-original, second-not-chosen, no-shared-day, overlaps-by-header
 -- Assumes nothing.
 use mathlib.Core.Path.{_≡_, sym, _∙_}
-use mathlib.Core.Bool.{true, false, _&&_, and-false}
+use mathlib.Core.Bool.{Bool, true, false, _&&_, and-false, false≢true}
 use Prim.Native.Nat.{ℕ, _≤_, _<_, min, max}
 use native.Mathlib.Omega.{arith}
 use native.Mathlib.Decide.{decLe}
@@ -13,6 +13,7 @@ use borrow.Author.Tests.{eq-eqb, ne-eqb, le-leb, lt-leb}
 use lib.Dec.{leb}
 use lib.ListN.{length}
 use Rattle.lists.specs.Below.{someBelow}
+use Rattle.lists.proofs.Below.{some-none, none-some}
 use Rattle.types.specs.Types.{SH}
 use Rattle.groups.specs.Groups.{at}
 use Rattle.periods.specs.Periods.{PeriodColumns, isOriginal, chooses, shareDay, overlaps}
@@ -80,6 +81,14 @@ module _ (c : PeriodColumns) where
     pub second-no-original : isOriginal c j ≡ false → overlaps c i j ≡ false
     unfolding overlaps
     second-no-original other = simp (other, and-false)
+
+    pub second-not-chosen : someBelow (λ (h : ℕ). chooses c h j && chooses c h j) (length (c .types)) ≡ false → overlaps c i j ≡ false
+    unfolding overlaps
+    second-not-chosen none = simp (none-some (λ (h : ℕ). chooses c h i && chooses c h j) (length (c .types)) (λ h l. neither (chooses c h i) (chooses c h j) (some-none (λ (k : ℕ). chooses c k j && chooses c k j) (length (c .types)) none h l)), and-false)
+      where
+        neither : (a b : Bool) → (b && b) ≡ false → (a && b) ≡ false
+        neither a true e = absurd (false≢true (sym e))
+        neither a false e = and-false a
 
     pub no-shared-day : shareDay c i j ≡ false → overlaps c i j ≡ false
     unfolding overlaps

@@ -1,2 +1,3 @@
+pub mod Certified
 pub mod Conditions
 pub mod Meaning

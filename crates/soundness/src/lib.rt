@@ -1,5 +1,5 @@
 // Whether a ledger is sound: document 01's sentences, each a function of its own, over the entries that two lent runs of numbers hold.
-// The runs may hold anything; places are those of entries in use. A loop stops at the first fault.
+// The runs may hold anything; places are those of entries in use. A loop stops at the first fault. `soundness_certificate::is_sound` gives the same answer, and does not compare all pairs of a sound ledger.
 ghost use mathlib.Core.Path.{_≡_};
 ghost use mathlib.Core.Bool.{not, cond, _||_, _&&_};
 ghost use Prim.Native.Nat.{ℕ, _≤_, _<_, _+_, _*_, _^_};
@@ -7,13 +7,21 @@ ghost use lib.Dec.{eqb, ltb};
 ghost use lib.IntN.{natAbs, _+ℤ_};
 ghost use lib.ListN.{length};
 ghost use Rattle.lists.specs.Below.{someBelow};
-ghost use Rattle.entries.specs.Entries.{isPeriod};
+ghost use Rattle.entries.specs.Entries.{entryOf, isPeriod};
 ghost use Rattle.entries.specs.Words.{entriesOf};
 ghost use Rattle.soundness.specs.Sound.{sizesFit, digitsFit, within, rangesFit, isZero, lacksFit, entryFits, sameKey, repeatsKey, isLivePeriod, clash, clashes, sameSubject, isNamed, namesAlike, opposite, cancelsBefore, cancelledBefore, pairs, unpaired, isFaulty, isSound};
 use entries::Entry;
 
+// The entry at a place in use.
+pub fn entry_in_use(words: &[u64], amounts: &[i64], used: usize, i: usize) -> Entry
+    requires { ⌜ (used * 9 ≤ length (now words)) × (used * 2 ≤ length (now amounts)) × (i < used) ⌝ }
+    ensures { λ r. ⌜ r ≡ entryOf (entriesOf (now (words .entry)) (now (amounts .entry)) used) i ⌝ }
+{
+    entries::entry_at(words, amounts, i)
+}
+
 // "the run has at most 8,192 entries and the used count doesn't exceed it"
-fn sizes_fit(places: usize, used: usize) -> bool
+pub fn sizes_fit(places: usize, used: usize) -> bool
     ensures { λ r. ⌜ r ≡ sizesFit places used ⌝ }
 {
     if 8192 < places {
@@ -128,7 +136,7 @@ fn lacks_fit(e: Entry) -> bool
 }
 
 // The sentences that look at one entry.
-fn entry_fits(e: Entry) -> bool
+pub fn entry_fits(e: Entry) -> bool
     ensures { λ r. ⌜ r ≡ entryFits e ⌝ }
 {
     if !digits_fit(e) {
@@ -168,7 +176,7 @@ fn repeats_key(words: &[u64], amounts: &[i64], i: usize) -> bool
     false
 }
 
-fn is_live_period(e: Entry) -> bool
+pub fn is_live_period(e: Entry) -> bool
     ensures { λ r. ⌜ r ≡ isLivePeriod e ⌝ }
 {
     if e.state != 1 {
@@ -248,7 +256,7 @@ fn has_named(cancel: Entry, e: Entry, state: u64, id: u64) -> bool
 }
 
 // Whether an entry is cancelled and has what a cancel names.
-fn is_named(cancel: Entry, e: Entry) -> bool
+pub fn is_named(cancel: Entry, e: Entry) -> bool
     ensures { λ r. ⌜ r ≡ isNamed cancel e ⌝ }
 {
     has_named(cancel, e, 3, e.id)
@@ -272,7 +280,7 @@ fn are_opposite(a: i64, b: i64) -> bool
 }
 
 // Test 40's: charge and usage are the opposites.
-fn is_opposite(cancel: Entry, e: Entry) -> bool
+pub fn is_opposite(cancel: Entry, e: Entry) -> bool
     ensures { λ r. ⌜ r ≡ opposite cancel e ⌝ }
 {
     if !are_opposite(cancel.charge, e.charge) {
@@ -367,7 +375,6 @@ fn is_unpaired(words: &[u64], amounts: &[i64], used: usize, i: usize) -> bool
     !has_partner(words, amounts, used, i)
 }
 
-// Whether the entry at i breaks one of the sentences.
 fn is_faulty(words: &[u64], amounts: &[i64], used: usize, i: usize) -> bool
     requires { ⌜ (used * 9 ≤ length (now words)) × (used * 2 ≤ length (now amounts)) × (i < used) ⌝ }
     ensures { λ r. ⌜ r ≡ isFaulty (entriesOf (now (words .entry)) (now (amounts .entry)) used) i ⌝ }
@@ -384,8 +391,8 @@ fn is_faulty(words: &[u64], amounts: &[i64], used: usize, i: usize) -> bool
     is_unpaired(words, amounts, used, i)
 }
 
-// Whether the first entries of a run of places, as many as are in use, make a sound ledger.
-pub fn is_sound(words: &[u64], amounts: &[i64], places: usize, used: usize) -> bool
+// Whether the first entries of a run of places, as many as are in use, make a sound ledger: each is compared with all others.
+pub fn is_sound_plainly(words: &[u64], amounts: &[i64], places: usize, used: usize) -> bool
     requires { ⌜ (73728 ≤ length (now words)) × (16384 ≤ length (now amounts)) ⌝ }
     ensures { λ r. ⌜ r ≡ isSound (entriesOf (now (words .entry)) (now (amounts .entry)) places) used ⌝ }
 {

@@ -1,2 +1,3 @@
+pub mod SlotSums
 pub mod Sums
 pub mod Totals

@@ -1,0 +1,84 @@
+//! Times of the two sides on the same inputs, and how they are printed.
+
+use std::fmt::Debug;
+use std::hint::black_box;
+
+mod clock {
+    /// A time as the C library of Linux counts it.
+    #[repr(C)]
+    pub struct Time {
+        pub seconds: i64,
+        pub nanoseconds: i64,
+    }
+
+    /// The clock that runs only while the calling thread does.
+    pub const THREAD: i32 = 3;
+
+    extern "C" {
+        pub fn clock_gettime(clock: i32, time: *mut Time) -> i32;
+    }
+}
+
+/// Each side is timed on so many inputs, and the median counts.
+const INPUTS: usize = 11;
+
+/// The medians of both sides in microseconds.
+#[derive(Clone, Copy)]
+pub struct Medians {
+    proved: f64,
+    reference: f64,
+}
+
+/// How long this thread has run, in microseconds: other programs of the machine don't count.
+fn running_time() -> f64 {
+    let mut time = clock::Time { seconds: 0, nanoseconds: 0 };
+    assert_eq!(unsafe { clock::clock_gettime(clock::THREAD, &mut time) }, 0);
+    time.seconds as f64 * 1e6 + time.nanoseconds as f64 / 1e3
+}
+
+/// The answer and the time of a side on a fresh input, in microseconds. It is called on an earlier input first, so that it finds
+/// its own code and memory in the cache, and not those of the other side.
+fn timed<Input, Answer>(side: impl Fn(&Input) -> Answer, earlier: &Input, fresh: &Input) -> (Answer, f64) {
+    black_box(side(black_box(earlier)));
+    let start = running_time();
+    let answer = black_box(side(black_box(fresh)));
+    (answer, running_time() - start)
+}
+
+fn median(mut times: Vec<f64>) -> f64 {
+    times.sort_by(f64::total_cmp);
+    times[times.len() / 2]
+}
+
+/// Times both sides, one after the other, on inputs that neither has met before. Both must give the expected answer.
+pub fn medians<Input, Answer: PartialEq + Debug>(
+    mut draw: impl FnMut() -> Input,
+    expected: Answer,
+    proved: impl Fn(&Input) -> Answer,
+    reference: impl Fn(&Input) -> Answer,
+) -> Medians {
+    let mut proved_times = Vec::new();
+    let mut reference_times = Vec::new();
+    let mut earlier = draw();
+    for _ in 0..INPUTS {
+        let fresh = draw();
+        for (side, times) in [(&proved as &dyn Fn(&Input) -> Answer, &mut proved_times), (&reference, &mut reference_times)] {
+            let (answer, time) = timed(side, &earlier, &fresh);
+            assert_eq!(answer, expected);
+            times.push(time);
+        }
+        earlier = fresh;
+    }
+    Medians { proved: median(proved_times), reference: median(reference_times) }
+}
+
+/// A line with the medians of a case and their ratio.
+pub fn report(what: &str, medians: &Medians) {
+    let Medians { proved, reference } = medians;
+    println!("{what}: proved {proved:.0} us, reference {reference:.0} us, ratio {:.2}", proved / reference);
+}
+
+/// A line with the growth of both sides from a smaller case to a larger one.
+pub fn report_growth(what: &str, smaller: &Medians, larger: &Medians) {
+    println!("{what}: proved grows {:.2}-fold, reference {:.2}-fold", larger.proved / smaller.proved, larger.reference / smaller.reference);
+}

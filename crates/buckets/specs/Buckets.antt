@@ -1,0 +1,50 @@
+-- Places in buckets by their values. Of the places that have the same value only the first, their leader, is in its bucket.
+-- A bucket's places hang in a chain, the latest first. A place is held as itself and one; 0 says none.
+-- Assumes nothing.
+use mathlib.Core.Path.{_≡_}
+use mathlib.Core.List.{List}
+use Prim.Native.Nat.{ℕ, _+_, _-_, _*_, _/_, _%_, _≤_, _<_}
+use lib.Dec.{eqb}
+use lib.ListN.{length, getD}
+use Rattle.lists.specs.Below.{firstBelow}
+
+-- the first of the first n places that has the value x, or n
+abbrev pub firstPlace : List ℕ → ℕ → ℕ → ℕ
+firstPlace values n x = firstBelow (λ (j : ℕ). eqb (getD values j 0) x) n
+
+-- no place before p has the value at p
+abbrev pub Leads : List ℕ → ℕ → Type 0
+Leads values p = firstPlace values p (getD values p 0) ≡ p
+
+-- each of the first m places has its leader in the column
+abbrev pub Led : List ℕ → ℕ → List ℕ → ℕ → Type 0
+Led values n leaders m = (i : ℕ) → i < m → getD leaders i 0 ≡ firstPlace values n (getD values i 0)
+
+unfoldable pub bucketOf : ℕ → ℕ
+bucketOf x = (x % 4294967296 + x / 4294967296) * 2135587861 / 1048576 % 8192
+
+abbrev pub bucketAt : List ℕ → ℕ → ℕ
+bucketAt values p = bucketOf (getD values p 0)
+
+-- k holds the latest of the first m places that is in the bucket b
+pub record Latest (values : List ℕ) (b m k : ℕ) : Type 0 where
+  pub within : k ≤ m
+  pub same : 0 < k → bucketAt values (k - 1) ≡ b
+  pub leads : 0 < k → Leads values (k - 1)
+  pub after : (p : ℕ) → p < m → Leads values p → bucketAt values p ≡ b → p < k
+
+-- of the first m places, each bucket's latest
+abbrev pub Headed : List ℕ → ℕ → List ℕ → Type 0
+Headed values m heads = (b : ℕ) → Latest values b m (getD heads b 0)
+
+-- of each of the first m places, the latest before it that is in its bucket
+abbrev pub Linked : List ℕ → ℕ → List ℕ → Type 0
+Linked values m links = (q : ℕ) → q < m → Latest values (bucketAt values q) q (getD links q 0)
+
+-- the first n places are in their buckets
+pub record Indexed (values : List ℕ) (n : ℕ) (heads links : List ℕ) : Type 0 where
+  pub valued : n ≤ length values
+  pub buckets : length heads ≡ 8192
+  pub chained : n ≤ length links
+  pub headed : Headed values n heads
+  pub linked : Linked values n links

@@ -1,0 +1,83 @@
+// The first place that has a value, by buckets: a value is compared with the values of its bucket alone, and each different value is there once.
+ghost use mathlib.Core.Path.{_≡_};
+ghost use mathlib.Core.Bool.{true, cond};
+ghost use Prim.Native.Nat.{ℕ, _+_, _≤_, _<_};
+ghost use lib.Dec.{eqb};
+ghost use lib.ListN.{length, getD};
+ghost use Rattle.buckets.specs.Buckets.{firstPlace, Led, bucketOf, Latest, Linked, Indexed};
+
+fn bucket(value: u64) -> usize
+    ensures { λ r. ⌜ (r ≡ bucketOf value) × (r < 8192) ⌝ }
+{
+    ((value % 4294967296 + value / 4294967296) * 2135587861 / 1048576 % 8192) as usize
+}
+
+// The first of the first m places that has a value, or m, along the chain that starts at `from`; m + 1 where that takes more than `limit` steps.
+fn walk(values: &[u64], links: &[usize], m: usize, from: usize, value: u64, limit: usize) -> usize
+    requires { ⌜ (m ≤ length (now values)) × (m ≤ length (now links)) ⌝ }
+    requires { ⌜ Linked (now values) m (now links) × Latest (now values) (bucketOf value) m from ⌝ }
+    ensures { λ r. ⌜ (r ≤ m → r ≡ firstPlace (now (values .entry)) m value) ⌝ }
+    ensures { λ r. ⌜ (m < limit → r ≤ m) ⌝ }
+{
+    let mut held = from;
+    let mut steps: usize = 0;
+    while steps < limit {
+        if held == 0 {
+            return m;
+        }
+        if values[held - 1] == value {
+            return held - 1;
+        }
+        held = links[held - 1];
+        steps += 1;
+    }
+    m + 1
+}
+
+// What a bucket holds after the place i, whose leader is known: i, where it leads itself, or the latest from before.
+fn held_after(leader: usize, i: usize, latest: usize) -> usize
+    requires { ⌜ i < 18446744073709551615 ⌝ }
+    ensures { λ r. ⌜ r ≡ cond (eqb leader i) (i + 1) latest ⌝ }
+{
+    if leader == i {
+        return i + 1;
+    }
+    latest
+}
+
+// Puts the first n places into their buckets, and the leader of each into `leaders`. False where a chain grows past 32 steps.
+pub fn index(
+    values: &[u64],
+    n: usize,
+    heads: &mut [usize],
+    links: &mut [usize],
+    leaders: &mut [usize],
+) -> bool
+    requires { ⌜ (n ≤ length (now values)) × (n ≤ length (now links)) × (n ≤ length (now leaders)) × (length (now heads) ≡ 8192) ⌝ }
+    requires { ⌜ ((b : ℕ) → getD (now heads) b 0 ≡ 0) ⌝ }
+    ensures { λ r. ⌜ (r ≡ true → Indexed (now (values .entry)) n (now (heads .exit)) (now (links .exit)) × Led (now (values .entry)) n (now (leaders .exit)) n) ⌝ }
+{
+    let mut i: usize = 0;
+    while i < n {
+        let value = values[i];
+        let b = bucket(value);
+        let latest = heads[b];
+        let leader = walk(values, links, i, latest, value, 32);
+        if i < leader {
+            return false;
+        }
+        heads[b] = held_after(leader, i, latest);
+        links[i] = latest;
+        leaders[i] = leader;
+        i += 1;
+    }
+    true
+}
+
+// The first of the first n places that has a value, or n.
+pub fn place_of(values: &[u64], n: usize, heads: &[usize], links: &[usize], value: u64) -> usize
+    requires { ⌜ Indexed (now values) n (now heads) (now links) ⌝ }
+    ensures { λ r. ⌜ r ≡ firstPlace (now (values .entry)) n value ⌝ }
+{
+    walk(values, links, n, heads[bucket(value)], value, n + 1)
+}

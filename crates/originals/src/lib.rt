@@ -1,0 +1,110 @@
+// The original periods of a file, and how many of its first records have none that share a day of a site.
+ghost use mathlib.Core.Path.{_≡_};
+ghost use mathlib.Core.Bool.{true};
+ghost use Prim.Native.Nat.{ℕ, _≤_, _<_};
+ghost use lib.ListN.{length};
+ghost use Rattle.apart.specs.Gathered.{Gathering};
+ghost use Rattle.originals.specs.Originals.{originalAt, dayAt, NoneShared};
+
+// TH, as crate types counts the record types.
+const PERIOD_HEADER: u64 = 2;
+
+// Whether the record at i is an original period: a Tariff Bill Period Header with the Cancel Indicator N.
+pub fn is_original(types: &[u64], cancels: &[u64], i: usize) -> bool
+    requires { ⌜ (i < length (now types)) × (i < length (now cancels)) ⌝ }
+    ensures { λ r. ⌜ r ≡ originalAt (now (types .entry)) (now (cancels .entry)) i ⌝ }
+{
+    if types[i] != PERIOD_HEADER {
+        return false;
+    }
+    cancels[i] == 0
+}
+
+// Puts the first and the last days of the original periods among the first n records into `firsts` and `lasts`, in file order, and answers their number.
+fn gather(
+    types: &[u64],
+    sites: &[u64],
+    starts: &[u64],
+    ends: &[u64],
+    cancels: &[u64],
+    n: usize,
+    firsts: &mut [u64],
+    lasts: &mut [u64],
+) -> usize
+    requires { ⌜ (n ≤ length (now types)) × (n ≤ length (now sites)) × (n ≤ length (now starts)) × (n ≤ length (now ends)) × (n ≤ length (now cancels)) ⌝ }
+    requires { ⌜ (n ≤ length (now firsts)) × (n ≤ length (now lasts)) ⌝ }
+    ensures { λ r. ⌜ Gathering (originalAt (now (types .entry)) (now (cancels .entry))) (dayAt (now (sites .entry)) (now (starts .entry))) (dayAt (now (sites .entry)) (now (ends .entry))) (now (firsts .exit)) (now (lasts .exit)) n r ⌝ }
+{
+    let mut count: usize = 0;
+    let mut i: usize = 0;
+    while i < n {
+        if is_original(types, cancels, i) {
+            let site = sites[i];
+            firsts[count] = apart::day_number(site, starts[i]);
+            lasts[count] = apart::day_number(site, ends[i]);
+            count += 1;
+        }
+        i += 1;
+    }
+    count
+}
+
+// Whether no two original periods among the first n records are shown to share a day of a site. Where the answer is false, nothing is known.
+fn none_shared(
+    types: &[u64],
+    sites: &[u64],
+    starts: &[u64],
+    ends: &[u64],
+    cancels: &[u64],
+    n: usize,
+) -> bool
+    requires { ⌜ (n ≤ length (now types)) × (n ≤ length (now sites)) × (n ≤ length (now starts)) × (n ≤ length (now ends)) × (n ≤ length (now cancels)) ⌝ }
+    requires { ⌜ n ≤ 4096 ⌝ }
+    ensures { λ r. ⌜ (r ≡ true → NoneShared (now (types .entry)) (now (sites .entry)) (now (starts .entry)) (now (ends .entry)) (now (cancels .entry)) n) ⌝ }
+{
+    let mut firsts = [0u64; 4096];
+    let mut lasts = [0u64; 4096];
+    let count = gather(
+        types,
+        sites,
+        starts,
+        ends,
+        cancels,
+        n,
+        &mut firsts,
+        &mut lasts,
+    );
+    apart::all_apart(&firsts, &lasts, count)
+}
+
+// How many of the first records are shown to have no two original periods that share a day of a site: all, in the usual file of up to 4,096.
+// Otherwise the number is found by halves, so that what is left to compare begins where two periods share a day.
+pub fn none_shared_until(
+    types: &[u64],
+    sites: &[u64],
+    starts: &[u64],
+    ends: &[u64],
+    cancels: &[u64],
+) -> usize
+    requires { ⌜ (length (now sites) ≡ length (now types)) × (length (now starts) ≡ length (now types)) × (length (now ends) ≡ length (now types)) × (length (now cancels) ≡ length (now types)) ⌝ }
+    ensures { λ r. ⌜ (r ≤ length (now (types .entry))) × NoneShared (now (types .entry)) (now (sites .entry)) (now (starts .entry)) (now (ends .entry)) (now (cancels .entry)) r ⌝ }
+{
+    let n = types.len();
+    if 4096 < n {
+        return 0;
+    }
+    if none_shared(types, sites, starts, ends, cancels, n) {
+        return n;
+    }
+    let mut shown: usize = 0;
+    let mut refused: usize = n;
+    while shown + 1 < refused {
+        let middle = shown + (refused - shown) / 2;
+        if none_shared(types, sites, starts, ends, cancels, middle) {
+            shown = middle;
+        } else {
+            refused = middle;
+        }
+    }
+    shown
+}

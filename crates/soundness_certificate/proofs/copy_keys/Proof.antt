@@ -1,0 +1,96 @@
+-- `soundness_certificate::copy_keys` meets its contract. The loop's invariant: the entries passed fit, and their keys are in the column.
+-- Assumes nothing.
+use mathlib.Core.Path.{_≡_, refl, sym, _∙_, ap, subst}
+use Prim.Native.Nat.{ℕ, _+_, _-_, _≤_}
+use denote.Ref.{now}
+use lib.ListN.{length, length-set, set}
+use borrow.Author.Tests.{not-false}
+use Rattle.entries.specs.declared.Entry.{Entry}
+use Rattle.entries.specs.Words.{entriesOf}
+use Rattle.soundness.specs.Meaning.{EntryFits}
+use Rattle.soundness.proofs.Meaning.{entry-means}
+use Rattle.soundness_certificate.specs.Certificate.{keyOf, Keyed}
+use Rattle.soundness_certificate.proofs.Laws.{keyed-none, keyed-more}
+use borrow.Author.Needs.{needs}
+use native.Mathlib.Omega.{arith}
+use Rattle.soundness_certificate.proofs.copy_keys.Statement.{statement}
+use Rattle.soundness_certificate.proofs.copy_keys.Tie as tie
+
+abbrev Inv-loop : tie.InvT-loop
+Inv-loop words amounts used keys₀ i₀ keys i = (i ≤ used) × (length keys ≡ length keys₀) × Keyed (entriesOf words amounts used) i keys
+
+abbrev μ-loop : tie.MeasureT-loop
+μ-loop words amounts used keys₀ i₀ keys i = used - i
+
+loop-holds : tie.Need-loop-holds Inv-loop μ-loop
+loop-holds c = let a = c .before .before .args in (omega arith, refl, keyed-none (entriesOf (now (a .words)) (now (a .amounts)) (a .used)) (now (a .keys)))
+
+entry-in-use-requires : tie.Need-entry-in-use-requires Inv-loop μ-loop
+entry-in-use-requires c κs = search needs
+
+entry-fits-requires : tie.Need-entry-fits-requires Inv-loop μ-loop
+entry-fits-requires c κs = search needs
+
+same-length : tie.Need-same-length Inv-loop μ-loop
+same-length c = search needs
+
+returns : tie.Need-returns Inv-loop μ-loop
+returns c = λ e. let z : _≡_ {A = ℕ} 0 1 = cc in absurd (omega arith)
+
+key-requires : tie.Need-key-requires Inv-loop μ-loop
+key-requires c κs = search needs
+
+mul-keys : tie.Need-mul-keys Inv-loop μ-loop
+mul-keys c = search needs
+
+slice-write-keys : tie.Need-slice-write-keys Inv-loop μ-loop
+slice-write-keys c = search needs
+
+add-i : tie.Need-add-i Inv-loop μ-loop
+add-i c = search needs
+
+loop-less : tie.Need-loop-less Inv-loop μ-loop
+loop-less c = search needs
+
+loop-again : tie.Need-loop-again Inv-loop μ-loop
+loop-again c =
+    let p = c .before .before .before .before .before .loop in
+    let a = c .before .before .before .before .before .before .before .before .args in
+    let es = entriesOf (now (a .words)) (now (a .amounts)) (a .used) in
+    let is = c .before .before .before .entry-in-use .ensures in
+    let fits : EntryFits (c .before .before .before .entry-in-use .result) = entry-means (c .before .before .before .entry-in-use .result) .0 (sym (c .before .before .entry-fits .ensures) ∙ not-false _ (c .before .if1 .left)) in
+    let key = c .key .ensures ∙ ap (λ (e : Entry). keyOf (e .sender) (e .id)) is in (
+      omega arith,
+      simp length-set (p .inv .1),
+      subst (λ (k : ℕ). Keyed es (p .i + 1) (set (p .keys) (p .i) k)) (sym key) (keyed-more es (p .i) (p .keys) (omega (arith, p .inv .1)) (p .inv .2) (subst EntryFits is fits)),
+    )
+
+same-length-2 : tie.Need-same-length-2 Inv-loop μ-loop
+same-length-2 c = search needs
+
+returns-2 : tie.Need-returns-2 Inv-loop μ-loop
+returns-2 c =
+    let p = c .before .loop in
+    let a = c .before .before .before .before .args in
+    let z : p .i ≡ a .used = omega arith in
+    λ e. subst (λ (m : ℕ). Keyed (entriesOf (now (a .words)) (now (a .amounts)) (a .used)) m (p .keys)) z (p .inv .2)
+
+pub copy-keys-spec : {M : Type 1} → statement M
+copy-keys-spec =
+    tie.close
+    (tie.spec
+    Inv-loop
+    μ-loop
+    loop-holds
+    entry-in-use-requires
+    entry-fits-requires
+    same-length
+    returns
+    key-requires
+    mul-keys
+    slice-write-keys
+    add-i
+    loop-less
+    loop-again
+    same-length-2
+    returns-2)

@@ -1,0 +1,51 @@
+-- What the passes over a ledger's entries show. Together they make it sound (proofs/Laws, `certified`).
+-- Assumes nothing.
+use Prim.Native.Nat.{ℕ, _+_, _*_, _%_, _<_}
+use mathlib.Core.Path.{_≡_}
+use mathlib.Core.List.{List}
+use lib.ListN.{getD}
+use Rattle.entries.specs.declared.Entry.{Entry}
+use Rattle.entries.specs.Entries.{entryOf}
+use Rattle.soundness.specs.Meaning.{EntryFits, Names, Opposite, Paired}
+
+-- a column has f of each of its first m places
+abbrev pub Copied : (ℕ → ℕ) → ℕ → List ℕ → Type 0
+Copied f m column = (i : ℕ) → i < m → getD column i 0 ≡ f i
+
+-- ---- "no sender and Record ID pair repeats"
+-- one number for a sender and a Record ID: a sender of 4 digits has 14 bits, and an ID of 15 digits 50
+unfoldable pub keyOf : ℕ → ℕ → ℕ
+keyOf sender id = sender % 16384 * 1125899906842624 + id % 1125899906842624
+
+abbrev pub keyAt : List Entry → ℕ → ℕ
+keyAt es i = keyOf (entryOf es i .sender) (entryOf es i .id)
+
+-- each of the first m entries fits by itself, and its key is in the column
+pub record Keyed (es : List Entry) (m : ℕ) (keys : List ℕ) : Type 0 where
+  pub fit : (i : ℕ) → i < m → EntryFits (entryOf es i)
+  pub copied : Copied (keyAt es) m keys
+
+abbrev pub KeysDiffer : List Entry → ℕ → Type 0
+KeysDiffer es used = (i j : ℕ) → i < j → j < used → entryOf es i .sender ≡ entryOf es j .sender → entryOf es i .id ≡ entryOf es j .id → ⊥
+
+-- ---- "cancels and cancelled entries pair off as 39 and 40 require, the cancelled one earlier"
+-- the cancel at i cancels the entry at j, before it
+pub record Cancels (es : List Entry) (i j : ℕ) : Type 0 where
+  pub earlier : j < i
+  pub cancel : entryOf es i .state ≡ 4
+  pub cancelled : entryOf es j .state ≡ 3
+  pub names : Names (entryOf es i) (entryOf es j)
+  pub opposite : Opposite (entryOf es i) (entryOf es j)
+
+-- each cancel of the first m entries has left its mark, its place and one, at the entry that it cancels; and there is no other mark
+pub record Marked (es : List Entry) (m : ℕ) (marks : List ℕ) : Type 0 where
+  pub each : (i : ℕ) → i < m → entryOf es i .state ≡ 4 → (j : ℕ) × Cancels es i j × (getD marks j 0 ≡ i + 1)
+  pub only : (j : ℕ) → (getD marks j 0 ≡ 0 → ⊥) → (i : ℕ) × (i < m) × Cancels es i j
+
+-- each cancelled entry of the first m has a mark
+abbrev pub CancelledMarked : List Entry → ℕ → List ℕ → Type 0
+CancelledMarked es m marks = (j : ℕ) → j < m → entryOf es j .state ≡ 3 → getD marks j 0 ≡ 0 → ⊥
+
+pub record PairedOff (es : List Entry) (used : ℕ) : Type 0 where
+  pub cancel-paired : (i : ℕ) → i < used → entryOf es i .state ≡ 4 → (j : ℕ) × Paired es used i j
+  pub cancelled-paired : (j : ℕ) → j < used → entryOf es j .state ≡ 3 → (i : ℕ) × (i < used) × Paired es used i j
