@@ -13,6 +13,7 @@ pub mod KeptNames
 pub mod KeptPairs
 pub mod KeptPlaces
 pub mod KeptSound
+pub mod Lines
 pub mod Meaning
 pub mod Named
 pub mod Opposites
