@@ -1,34 +1,38 @@
 -- The first days of the months: the table is the list that the rule makes, and later months start later.
+--     table-length    the table has 1,200 entries
 --     rule            an entry of the table is the rule's day
 --     first-order     later months start later
 --     bound           the last of the 1,200 months starts on day 36,494
 --     before-end      a month that starts before day 36,525 is one of the 1,200
 -- Assumes nothing.
 use mathlib.Core.Path.{_≡_, refl, sym, _∙_, ap, subst}
-use mathlib.Core.List.{List, [], _∷_}
 use mathlib.Core.Bool.{Bool, true, false, cond, _||_}
 use Prim.Native.Nat.{ℕ, zero, suc, _+_, _-_, _/_, _%_, _≤_, _<_}
 use native.Mathlib.Nat.{zero-add, add-zero, add-suc, suc-add, le-refl, le-of-suc-le-suc}
 use native.Mathlib.Omega.{arith}
 use borrow.Author.Tests.{ltb-true, ltb-false}
 use lib.Dec.{ltb, eqb}
-use lib.ListN.{getD}
-use Rattle.calendar.specs.Calendar.{leapYear, monthDays, firstDay}
+use lib.ListN.{length, getD}
+use Rattle.calendar.specs.Calendar.{leapYear, monthDays, firstDay, daysFrom, firstDays}
 
--- n entries of the table from month i on, which starts on day `day`
-unfoldable pub table : ℕ → ℕ → ℕ → List ℕ
-table zero i day = []
-table (suc n) i day = day ∷ table n (suc i) (day + monthDays i)
-
-entry : (n i k : ℕ) → k < n → getD (table n i (firstDay i)) k 0 ≡ firstDay (i + k)
-unfolding table firstDay
+entry : (n i k : ℕ) → k < n → getD (daysFrom n i (firstDay i)) k 0 ≡ firstDay (i + k)
+unfolding daysFrom firstDay
 entry zero i k h = absurd (omega arith)
 entry (suc n) i zero h = rw add-zero
 entry (suc n) i (suc k) h = entry n (suc i) k (le-of-suc-le-suc h) ∙ ap firstDay (suc-add i k ∙ sym (add-suc i k))
 
--- its 1,200 entries, computed once
-pub rule : (k : ℕ) → k < 1200 → getD (table 1200 0 0) k 0 ≡ firstDay k
-unfolding firstDay
+size : (n i day : ℕ) → length (daysFrom n i day) ≡ n
+unfolding daysFrom
+size zero i day = refl
+size (suc n) i day = ap suc (size n (suc i) (day + monthDays i))
+
+-- its 1,200 entries
+pub table-length : length firstDays ≡ 1200
+unfolding firstDays
+table-length = size 1200 0 0
+
+pub rule : (k : ℕ) → k < 1200 → getD firstDays k 0 ≡ firstDay k
+unfolding firstDays firstDay
 rule k h = entry 1200 0 k h ∙ ap firstDay (zero-add k)
 
 months-on : (i k : ℕ) → firstDay i ≤ firstDay (i + k)

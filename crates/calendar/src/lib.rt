@@ -1,7 +1,7 @@
 // Days of the years 2000 to 2099, and periods of days. Day 0 is 1 January 2000.
 ghost use mathlib.Core.Path.{_≡_};
 ghost use Prim.Native.Nat.{_≤_, _<_, min, max};
-ghost use Rattle.calendar.specs.Calendar.{leapYear, monthDays, firstDay, dateDay, dayOf, atTime, dateTimeOf};
+ghost use Rattle.calendar.specs.Calendar.{leapYear, monthDays, firstDay, firstDays, dateDay, dayOf, atTime, dateTimeOf};
 ghost use Rattle.calendar.specs.Periods.{sharesDay};
 use digits::Number;
 
@@ -1226,12 +1226,19 @@ const FIRST_DAYS: [u64; 1200] = [
     36494,
 ];
 
+// The table, for a reader of many dates: it is put onto the stack where it is named.
+pub fn first_days() -> [u64; 1200]
+    ensures { λ r. ⌜ r ≡ firstDays ⌝ }
+{
+    FIRST_DAYS
+}
+
 // The day number of the first of a month, counted from January 2000.
-fn first_day(month: usize) -> u64
-    requires { ⌜ month < 1200 ⌝ }
+fn first_day(table: &[u64], month: usize) -> u64
+    requires { ⌜ (now table ≡ firstDays) × (month < 1200) ⌝ }
     ensures { λ r. ⌜ (r ≡ firstDay month) × (r ≤ 36494) ⌝ }
 {
-    FIRST_DAYS[month]
+    table[month]
 }
 
 fn leap(year: usize) -> bool
@@ -1259,7 +1266,8 @@ fn month_days(month: usize) -> u64
 }
 
 // The day of a date that is written as the number YYYYMMDD.
-fn date_day(n: u64) -> Day
+pub fn date_day(table: &[u64], n: u64) -> Day
+    requires { ⌜ now table ≡ firstDays ⌝ }
     ensures { λ r. ⌜ r ≡ dateDay n ⌝ }
 {
     let year = n / 10000;
@@ -1284,20 +1292,29 @@ fn date_day(n: u64) -> Day
     if month_days(k) < day {
         return Day::NotADate;
     }
-    Day::At(first_day(k) + (day - 1))
+    Day::At(first_day(table, k) + (day - 1))
 }
 
-// The day that eight digits YYYYMMDD name.
-pub fn day_of(s: &[u8]) -> Day
+// The day that eight digits YYYYMMDD name, by the table of first days.
+pub fn read_day(table: &[u64], s: &[u8]) -> Day
+    requires { ⌜ now table ≡ firstDays ⌝ }
     ensures { λ r. ⌜ r ≡ dayOf (now (s .entry)) ⌝ }
 {
     if s.len() != 8 {
         return Day::NotADate;
     }
     match digits::digits(s) {
-        Number::Value(n) => date_day(n),
+        Number::Value(n) => date_day(table, n),
         Number::Other => Day::NotADate,
     }
+}
+
+// The day that eight digits YYYYMMDD name.
+pub fn day_of(s: &[u8]) -> Day
+    ensures { λ r. ⌜ r ≡ dayOf (now (s .entry)) ⌝ }
+{
+    let table = first_days();
+    read_day(&table, s)
 }
 
 // The second of a day that the digits HHMMSS name, read as one number.
@@ -1319,20 +1336,29 @@ fn at_time(day: u64, n: u64) -> DateTime
     DateTime::Second(day, hour * 3600 + minute * 60 + second)
 }
 
-// The day and second that fourteen digits YYYYMMDDHHMMSS name.
-pub fn date_time_of(s: &[u8]) -> DateTime
+// The day and second that fourteen digits YYYYMMDDHHMMSS name, by the table of first days.
+pub fn read_date_time(table: &[u64], s: &[u8]) -> DateTime
+    requires { ⌜ now table ≡ firstDays ⌝ }
     ensures { λ r. ⌜ r ≡ dateTimeOf (now (s .entry)) ⌝ }
 {
     if s.len() != 14 {
         return DateTime::NotADateTime;
     }
-    let Day::At(day) = day_of(&s[..8]) else {
+    let Day::At(day) = read_day(table, &s[..8]) else {
         return DateTime::NotADateTime;
     };
     let Number::Value(n) = digits::digits(&s[8..]) else {
         return DateTime::NotADateTime;
     };
     at_time(day, n)
+}
+
+// The day and second that fourteen digits YYYYMMDDHHMMSS name.
+pub fn date_time_of(s: &[u8]) -> DateTime
+    ensures { λ r. ⌜ r ≡ dateTimeOf (now (s .entry)) ⌝ }
+{
+    let table = first_days();
+    read_date_time(&table, s)
 }
 
 fn later(a: u64, b: u64) -> u64

@@ -3,10 +3,11 @@ ghost use mathlib.Core.Path.{_≡_};
 ghost use Prim.Native.Nat.{_≤_};
 ghost use lib.ListN.{length, getD};
 ghost use Rattle.lists.specs.Bytes.{sameBytes};
+ghost use Rattle.lists.specs.Written.{written};
 ghost use Rattle.text.specs.Text.{linesOf, part, Placed};
-ghost use Rattle.records.specs.Records.{field};
+ghost use Rattle.records.specs.Records.{field, fieldsAt, FieldsPlaced};
 ghost use Rattle.format.specs.Format.{miscoded, firstMiscoded};
-ghost use Rattle.coded_fields.specs.Steps.{neitherAt, unitIf};
+ghost use Rattle.coded_fields.specs.Steps.{isNeither, wrongCode, unitIf};
 
 // The field of each type, counted from 1, that has each code of test 7; 0 where the type has none.
 const COMMODITY_FIELDS: [usize; 9] = [6, 0, 0, 0, 0, 0, 0, 0, 0];
@@ -27,40 +28,85 @@ fn field_of(fields: &[usize], record_type: u64) -> usize
     fields[record_type as usize]
 }
 
-// Whether field k of the line from a to e is a text.
-fn has_text(file: &[u8], a: usize, e: usize, k: usize, text: &[u8]) -> bool
+// Whether the line from a to e, a file's first, names electricity as the commodity.
+pub fn is_electric(file: &[u8], a: usize, e: usize) -> bool
     requires { ⌜ (a ≤ e) × (e ≤ length (now file)) ⌝ }
-    ensures { λ r. ⌜ r ≡ sameBytes (field k (part (now (file .entry)) a e)) (now (text .entry)) ⌝ }
+    ensures { λ r. ⌜ r ≡ sameBytes (field 6 (part (now (file .entry)) a e)) (written "EL") ⌝ }
 {
-    let place = records::field_at(file, a, e, k);
+    let place = records::field_at(file, a, e, 6);
     let b = place.0;
     let f = place.1;
-    lists::same_bytes(&file[b..f], text)
+    lists::same_bytes(&file[b..f], b"EL")
 }
 
-// Whether field k of the line from a to e is neither of two texts.
-fn is_neither(file: &[u8], a: usize, e: usize, k: usize, one: &[u8], two: &[u8]) -> bool
-    requires { ⌜ (a ≤ e) × (e ≤ length (now file)) ⌝ }
-    ensures { λ r. ⌜ r ≡ neitherAt k (now (one .entry)) (now (two .entry)) (part (now (file .entry)) a e) ⌝ }
+// Whether a field is neither of two texts; field 0, which there is not, passes.
+fn is_neither(k: usize, field: &[u8], one: &[u8], two: &[u8]) -> bool
+    ensures { λ r. ⌜ r ≡ isNeither k (now (field .entry)) (now (one .entry)) (now (two .entry)) ⌝ }
 {
     if k == 0 {
         return false;
     }
-    if has_text(file, a, e, k, one) {
+    if lists::same_bytes(field, one) {
         return false;
     }
-    !has_text(file, a, e, k, two)
+    !lists::same_bytes(field, two)
 }
 
-// Whether field k of the line from a to e is not the commodity's unit.
-fn has_other_unit(file: &[u8], a: usize, e: usize, k: usize, electricity: bool) -> bool
-    requires { ⌜ (a ≤ e) × (e ≤ length (now file)) ⌝ }
-    ensures { λ r. ⌜ r ≡ neitherAt k (unitIf electricity) (unitIf electricity) (part (now (file .entry)) a e) ⌝ }
+// Whether a field is not the commodity's unit.
+fn is_other_unit(k: usize, field: &[u8], electricity: bool) -> bool
+    ensures { λ r. ⌜ r ≡ isNeither k (now (field .entry)) (unitIf electricity) (unitIf electricity) ⌝ }
 {
     if electricity {
-        return is_neither(file, a, e, k, b"KWH", b"KWH");
+        return is_neither(k, field, b"KWH", b"KWH");
     }
-    is_neither(file, a, e, k, b"GJ", b"GJ")
+    is_neither(k, field, b"GJ", b"GJ")
+}
+
+// Whether a record of a type, whose fields stand at the first count of starts and ends, has a wrong code.
+pub fn has_wrong_code<'a>(
+    file: &[u8],
+    starts: &'a [usize; 24],
+    ends: &'a [usize; 24],
+    count: usize,
+    record_type: u64,
+    electricity: bool,
+) -> bool
+    requires { ⌜ FieldsPlaced (now file) count (now starts) (now ends) ⌝ }
+    ensures { λ r. ⌜ r ≡ wrongCode (unitIf electricity) record_type (fieldsAt (now (file .entry)) count (now (starts .entry)) (now (ends .entry))) ⌝ }
+{
+    let c = field_of(&COMMODITY_FIELDS, record_type);
+    if is_neither(
+        c,
+        records::field_among(file, starts, ends, count, c),
+        b"EL",
+        b"NG",
+    ) {
+        return true;
+    }
+    let u = field_of(&UNIT_FIELDS, record_type);
+    if is_other_unit(
+        u,
+        records::field_among(file, starts, ends, count, u),
+        electricity,
+    ) {
+        return true;
+    }
+    let i = field_of(&CANCEL_FIELDS, record_type);
+    if is_neither(
+        i,
+        records::field_among(file, starts, ends, count, i),
+        b"Y",
+        b"N",
+    ) {
+        return true;
+    }
+    let x = field_of(&EXEMPTION_FIELDS, record_type);
+    is_neither(
+        x,
+        records::field_among(file, starts, ends, count, x),
+        b"Y",
+        b"N",
+    )
 }
 
 fn is_miscoded(file: &[u8], a: usize, e: usize, electricity: bool) -> bool
@@ -68,21 +114,9 @@ fn is_miscoded(file: &[u8], a: usize, e: usize, electricity: bool) -> bool
     ensures { λ r. ⌜ r ≡ miscoded (unitIf electricity) (part (now (file .entry)) a e) ⌝ }
 {
     let r = records::record_at(file, a, e);
-    let record_type = r.record_type;
-    let commodity = field_of(&COMMODITY_FIELDS, record_type);
-    if is_neither(file, a, e, commodity, b"EL", b"NG") {
-        return true;
-    }
-    let unit = field_of(&UNIT_FIELDS, record_type);
-    if has_other_unit(file, a, e, unit, electricity) {
-        return true;
-    }
-    let cancel = field_of(&CANCEL_FIELDS, record_type);
-    if is_neither(file, a, e, cancel, b"Y", b"N") {
-        return true;
-    }
-    let exemption = field_of(&EXEMPTION_FIELDS, record_type);
-    is_neither(file, a, e, exemption, b"Y", b"N")
+    let starts = r.starts;
+    let ends = r.ends;
+    has_wrong_code(file, &starts, &ends, r.count, r.record_type, electricity)
 }
 
 // Test 7: the place of the first record that fails, or the number of records. The commodity is that of the first line.
@@ -93,7 +127,7 @@ pub fn first_miscoded(file: &[u8], starts: &[usize], ends: &[usize], n: usize) -
     if n == 0 {
         return 0;
     }
-    let electricity = has_text(file, starts[0], ends[0], 6, b"EL");
+    let electricity = is_electric(file, starts[0], ends[0]);
     let mut i: usize = 0;
     while i < n {
         let a = starts[i];

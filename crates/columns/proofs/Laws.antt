@@ -90,7 +90,7 @@ module _ {A : Type 0} (f : List ℕ → A) (lines : List (List ℕ)) (column : L
   in-line d i h = ap (λ (l : List A). getD l i d) same ∙ map-at f [] d lines i h
 
 module _ {lines : List (List ℕ)} {words : List ℕ} {chargeColumn usageColumn : List ℤ} (r : ColumnsRead lines words chargeColumn usageColumn) (n : ℕ) (e : n ≡ length lines) where
-  pub column-length : (column : ℕ) → column < 8 → length (columnAt column n words) ≡ n
+  pub column-length : (column : ℕ) → column < 8 → length (columnAt (length chargeColumn) column n words) ≡ n
   column-length column h = rw e (as-long (numberIn column) lines _ (r .numbers column h))
 
   pub charges-length : length (take n chargeColumn) ≡ n
@@ -100,7 +100,7 @@ module _ {lines : List (List ℕ)} {words : List ℕ} {chargeColumn usageColumn 
   usages-length = rw e (as-long usageIn lines _ (r .usages))
 
   module _ (i : ℕ) (h : i < n) where
-    pub column-at : (column : ℕ) → column < 8 → getD (columnAt column n words) i 0 ≡ numberIn column (getD lines i [])
+    pub column-at : (column : ℕ) → column < 8 → getD (columnAt (length chargeColumn) column n words) i 0 ≡ numberIn column (getD lines i [])
     column-at column l = rw e (in-line (numberIn column) lines _ (r .numbers column l) 0 i (omega (arith, e)))
 
     pub charge-at : getD (take n chargeColumn) i (pos 0) ≡ chargeIn (getD lines i [])

@@ -1,129 +1,150 @@
 -- The steps of reading columns.
---     field-none, field-place                   the field at a place among a record's fields
---     record-placed, field-read                 the field that a column reads of a record
---     NumbersRead, numbers-none, numbers-more   a loop that reads the numbers of a line
+--     row-field                                 the field that a column reads of a type
+--     NumbersRead, numbers-none, numbers-more   a loop that reads the numbers of a record
+--     row-read                                  a record's row is that of its line
 --     row-none, row-more                        a loop that stores the numbers of a line
 --     Rows, rows-none, rows-more, rows-end      a loop over the lines, which have their numbers in the columns
 --     Amounts, amounts-none, -more, -end        and their amounts
+--     Reading, reading-none, -more, -end        and both
 -- Assumes nothing.
 use mathlib.Core.Path.{_≡_, refl, sym, _∙_, ap, subst}
-use mathlib.Core.Logic.{_⊎_, ⊎-elim}
-use mathlib.Core.List.{List, [], _∷_, map}
-use Prim.Native.Nat.{ℕ, zero, suc, _+_, _-_, _*_, _≤_, _<_}
+use mathlib.Core.List.{List, [], map}
+use Prim.Native.Nat.{ℕ, zero, suc, _+_, _*_, _≤_, _<_}
+use native.Mathlib.Nat.{zero-mul, suc-mul, mul-le-mul-right}
 use native.Mathlib.Omega.{arith}
 use borrow.Author.Count.{below-more}
 use borrow.Author.Tests.{ne-eqb}
-use lib.ListN.{length, getD, take, drop, set, length-set, length-map, length-drop, List·getD-eq-default}
+use lib.ListN.{length, getD, take, drop, set, length-set, length-map, length-drop}
 use lib.Seq.{getD-set-same, getD-set-other, getD-take, getD-drop, length-take-le, ext-getD}
 use lib.IntN.{ℤ, pos}
 use Rattle.lists.proofs.Column.{Filled, filled-none, filled-more, filled-end, filled-take}
-use Rattle.text.specs.Text.{parts, Placed, At}
-use Rattle.text.proofs.Placed.{placed-at}
+use Rattle.lists.proofs.Table.{tabulate-at}
+use Rattle.amounts.specs.Amounts.{amountOf, units}
 use Rattle.records.specs.declared.Record.{Record}
-use Rattle.records.specs.Records.{field, typeIn, RecordFound}
-use Rattle.columns.specs.Columns.{fieldOf, fieldIn, held, numberIn, columnAt}
-use Rattle.columns.specs.Rows.{fieldAmong, RowStored}
+use Rattle.records.specs.Records.{field, fieldsAt, RecordFound}
+use Rattle.records.proofs.Laws.{record-field}
+use Rattle.columns.specs.declared.Row.{Row}
+use Rattle.columns.specs.Columns.{charge, usage, fieldOf, fieldIn, held, numberIn, chargeIn, usageIn, columnAt, ColumnsRead}
+use Rattle.columns.specs.Rows.{fieldRow, columnField, numberAmong, RowAmong, RowRead, RowStored}
 use Rattle.columns.proofs.Laws.{map-at}
 
--- ---- the field of a column
-pub field-none : (fields : List (List ℕ)) (k : ℕ) → (k ≡ 0) ⊎ (length fields < k) → fieldAmong fields k ≡ []
-unfolding fieldAmong
-field-none fields k = ⊎-elim (λ e. rw e) (λ h. List·getD-eq-default ([] ∷ fields) [] {n = k} h)
+-- ---- the fields of the columns
+pub row-field : (type column : ℕ) → column < 10 → getD (fieldRow type) column 0 ≡ fieldOf column type
+row-field type column h = tabulate-at (λ (c : ℕ). fieldOf c type) 10 column h
 
-pub field-place : {s : List ℕ} {n : ℕ} {bs es : List ℕ} {fields : List (List ℕ)} → Placed s n bs es fields → (k : ℕ) → (k ≡ 0 → ⊥) → k ≤ n
-    → At s (getD bs (k - 1) 0) (getD es (k - 1) 0) (fieldAmong fields k)
-unfolding fieldAmong
-field-place p zero some h = absurd (some refl)
-field-place p (suc k) some h = let before : suc k - 1 ≡ k = omega arith in rw before (placed-at p k h)
+-- ---- reading the numbers of a record
+pub type-among : (type : ℕ) (fields : List (List ℕ)) → numberAmong 0 type fields ≡ type
+unfolding numberAmong
+type-among type fields = refl
 
-pub record-placed : {s line : List ℕ} {r : Record} → RecordFound s line r
-    → (r .count ≤ 24) × Placed s (r .count) (r .starts) (r .ends) (parts s (take (r .count) (r .starts)) (take (r .count) (r .ends)))
-record-placed {s} {line} {r} found = (found .few, subst (λ (fields : List (List ℕ)). Placed s (r .count) (r .starts) (r .ends) fields) (sym (found .placed .same)) (found .placed))
+pub held-among : (column type : ℕ) (fields : List (List ℕ)) → 0 < column → numberAmong column type fields ≡ held column (columnField column type fields)
+unfolding numberAmong
+held-among column type fields h = rw (ne-eqb column 0 (λ e. omega (arith, e)))
 
-pub field-read : {s line : List ℕ} {r : Record} → RecordFound s line r → (column : ℕ)
-    → fieldAmong (parts s (take (r .count) (r .starts)) (take (r .count) (r .ends))) (fieldOf column (r .record_type)) ≡ fieldIn column line
-unfolding fieldAmong field
-field-read found column = rw (found .placed .same, found .type)
-
--- ---- reading the numbers of a line
-pub type-in : (line : List ℕ) → numberIn 0 line ≡ typeIn line
-unfolding numberIn
-type-in line = refl
-
-pub held-in : (column : ℕ) (line : List ℕ) → 0 < column → numberIn column line ≡ held column (fieldIn column line)
-unfolding numberIn
-held-in column line h = rw (ne-eqb column 0 (λ e. omega (arith, e)))
-
--- the first `count` numbers of a line
-pub record NumbersRead (line : List ℕ) (count : ℕ) (numbers : List ℕ) : Type 0 where
+-- the first `count` numbers of a record
+pub record NumbersRead (type : ℕ) (fields : List (List ℕ)) (count : ℕ) (numbers : List ℕ) : Type 0 where
   pub size : length numbers ≡ 8
-  pub at : (column : ℕ) → column < count → getD numbers column 0 ≡ numberIn column line
+  pub at : (column : ℕ) → column < count → getD numbers column 0 ≡ numberAmong column type fields
 
-pub numbers-none : (line numbers : List ℕ) → length numbers ≡ 8 → NumbersRead line 0 numbers
-numbers-none line numbers e = record { size = e; at = λ column h. absurd (omega arith) }
+pub numbers-none : (type : ℕ) (fields : List (List ℕ)) (numbers : List ℕ) → length numbers ≡ 8 → NumbersRead type fields 0 numbers
+numbers-none type fields numbers e = record { size = e; at = λ column h. absurd (omega arith) }
 
-pub numbers-more : {line : List ℕ} {c : ℕ} {numbers : List ℕ} → NumbersRead line c numbers → c < 8 → (x : ℕ) → x ≡ numberIn c line → NumbersRead line (c + 1) (set numbers c x)
-numbers-more {line} {c} {numbers} r small x e =
+pub numbers-more : {type : ℕ} {fields : List (List ℕ)} {c : ℕ} {numbers : List ℕ} → NumbersRead type fields c numbers → c < 8 → (x : ℕ) → x ≡ numberAmong c type fields
+    → NumbersRead type fields (c + 1) (set numbers c x)
+numbers-more {type} {fields} {c} {numbers} r small x e =
     record {
       size = length-set numbers c x ∙ r .size;
       at =
-          below-more (λ (column : ℕ). getD (set numbers c x) column 0 ≡ numberIn column line) c
+          below-more (λ (column : ℕ). getD (set numbers c x) column 0 ≡ numberAmong column type fields) c
           (λ column l. getD-set-other numbers c column x 0 (λ q. omega (arith, q)) ∙ r .at column l)
           (getD-set-same numbers c x 0 (omega (arith, r .size)) ∙ e);
     }
 
--- ---- storing the numbers of a line
-pub row-none : (words : List ℕ) (i : ℕ) (numbers : List ℕ) → RowStored words i numbers 0 words
-row-none words i numbers = record { size = refl; here = λ column h. absurd (omega arith); other = λ column k h n. refl }
+-- ---- a record's row is that of its line
+module _ {s line : List ℕ} {r : Record} (found : RecordFound s line r) where
+  line-field : (column : ℕ) → columnField column (r .record_type) (fieldsAt s (r .count) (r .starts) (r .ends)) ≡ fieldIn column line
+  line-field column = record-field found (fieldOf column (r .record_type)) ∙ ap (λ (type : ℕ). field (fieldOf column type) line) (found .type)
 
-pub row-more : {before : List ℕ} {i : ℕ} {numbers : List ℕ} {c : ℕ} {after : List ℕ} → RowStored before i numbers c after
-    → i < 4096 → c * 4096 + i < length before → RowStored before i numbers (c + 1) (set after (c * 4096 + i) (getD numbers c 0))
-row-more {before} {i} {numbers} {c} {after} r small inside =
-    let place = c * 4096 + i in
+  number-read : (column : ℕ) → numberAmong column (r .record_type) (fieldsAt s (r .count) (r .starts) (r .ends)) ≡ numberIn column line
+  unfolding numberAmong numberIn
+  number-read column = rw (line-field column, found .type)
+
+  pub row-read : {row : Row} → RowAmong (r .record_type) (fieldsAt s (r .count) (r .starts) (r .ends)) row → RowRead line row
+  unfolding chargeIn usageIn
+  row-read among =
+      record {
+        numbers = λ column h. among .numbers column h ∙ number-read column;
+        charge = among .charge ∙ ap (λ (l : List ℕ). units (amountOf 11 2 l)) (line-field charge);
+        usage = among .usage ∙ ap (λ (l : List ℕ). units (amountOf 14 4 l)) (line-field usage);
+      }
+
+-- ---- the words of the columns
+pub column-inside : (room column : ℕ) → column < 8 → column * room + room ≤ 8 * room
+column-inside room column h = let next = suc-mul column room in let most = mul-le-mul-right {m = suc column} {n = 8} room h in omega (arith, next, most)
+
+-- a word belongs to one line of one column
+pub same-place : (room a b i k : ℕ) → i < room → k < room → a * room + i ≡ b * room + k → (a ≡ b) × (i ≡ k)
+same-place room zero zero i k l m e = (refl, (let none = zero-mul room in omega (arith, none, e)))
+same-place room zero (suc b) i k l m e = let none = zero-mul room in let next = suc-mul b room in absurd (omega (arith, none, next, e, l))
+same-place room (suc a) zero i k l m e = let none = zero-mul room in let next = suc-mul a room in absurd (omega (arith, none, next, e, m))
+same-place room (suc a) (suc b) i k l m e =
+    let here = suc-mul a room in
+    let there = suc-mul b room in
+    let earlier = same-place room a b i k l m (omega (arith, here, there, e)) in
+    (ap suc (earlier .0), earlier .1)
+
+-- ---- storing the numbers of a line
+pub row-none : (room : ℕ) (words : List ℕ) (i : ℕ) (numbers : List ℕ) → RowStored room words i numbers 0 words
+row-none room words i numbers = record { size = refl; here = λ column h. absurd (omega arith); other = λ column k h n. refl }
+
+pub row-more : {room : ℕ} {before : List ℕ} {i : ℕ} {numbers : List ℕ} {c : ℕ} {after : List ℕ} → RowStored room before i numbers c after
+    → i < room → c * room + i < length before → RowStored room before i numbers (c + 1) (set after (c * room + i) (getD numbers c 0))
+row-more {room} {before} {i} {numbers} {c} {after} r small inside =
+    let place = c * room + i in
     let x = getD numbers c 0 in
     record {
       size = length-set after place x ∙ r .size;
       here =
-          below-more (λ (column : ℕ). getD (set after place x) (column * 4096 + i) 0 ≡ getD numbers column 0) c
-          (λ column l. getD-set-other after place (column * 4096 + i) x 0 (λ e. omega (arith, e)) ∙ r .here column l)
+          below-more (λ (column : ℕ). getD (set after place x) (column * room + i) 0 ≡ getD numbers column 0) c
+          (λ column l. getD-set-other after place (column * room + i) x 0 (λ e. let p = same-place room column c i i small small e .0 in omega (arith, p)) ∙ r .here column l)
           (getD-set-same after place x 0 (omega (arith, r .size)));
-      other = λ column k h n. getD-set-other after place (column * 4096 + k) x 0 (λ e. omega (arith, e, n)) ∙ r .other column k h n;
+      other = λ column k h n. getD-set-other after place (column * room + k) x 0 (λ e. n (same-place room column c k i h small e .1)) ∙ r .other column k h n;
     }
 
 -- ---- the lines
 -- the first i lines have their numbers in the columns
-pub record Rows (lines : List (List ℕ)) (i : ℕ) (words : List ℕ) : Type 0 where
-  pub size : length words ≡ 32768
-  pub at : (column k : ℕ) → column < 8 → k < i → getD words (column * 4096 + k) 0 ≡ numberIn column (getD lines k [])
+pub record Rows (room : ℕ) (lines : List (List ℕ)) (i : ℕ) (words : List ℕ) : Type 0 where
+  pub size : length words ≡ 8 * room
+  pub at : (column k : ℕ) → column < 8 → k < i → getD words (column * room + k) 0 ≡ numberIn column (getD lines k [])
 
-pub rows-none : (lines : List (List ℕ)) (words : List ℕ) → length words ≡ 32768 → Rows lines 0 words
-rows-none lines words e = record { size = e; at = λ column k h l. absurd (omega arith) }
+pub rows-none : (room : ℕ) (lines : List (List ℕ)) (words : List ℕ) → length words ≡ 8 * room → Rows room lines 0 words
+rows-none room lines words e = record { size = e; at = λ column k h l. absurd (omega arith) }
 
-pub rows-more : {lines : List (List ℕ)} {i : ℕ} {words numbers after : List ℕ} → Rows lines i words → i < 4096 → RowStored words i numbers 8 after
-    → ((column : ℕ) → column < 8 → getD numbers column 0 ≡ numberIn column (getD lines i [])) → Rows lines (i + 1) after
-rows-more {lines} {i} {words} {numbers} {after} r small s line =
+pub rows-more : {room : ℕ} {lines : List (List ℕ)} {i : ℕ} {words numbers after : List ℕ} → Rows room lines i words → i < room → RowStored room words i numbers 8 after
+    → ((column : ℕ) → column < 8 → getD numbers column 0 ≡ numberIn column (getD lines i [])) → Rows room lines (i + 1) after
+rows-more {room} {lines} {i} {words} {numbers} {after} r small s line =
     record {
       size = s .size ∙ r .size;
       at = λ column k h.
-          below-more (λ (j : ℕ). getD after (column * 4096 + j) 0 ≡ numberIn column (getD lines j [])) i
+          below-more (λ (j : ℕ). getD after (column * room + j) 0 ≡ numberIn column (getD lines j [])) i
           (λ j l. s .other column j (omega arith) (λ e. omega (arith, e)) ∙ r .at column j h l)
           (s .here column h ∙ line column h)
           k;
     }
 
-pub rows-end : {lines : List (List ℕ)} {i : ℕ} {words : List ℕ} → Rows lines i words → i ≡ length lines → i ≤ 4096
-    → (column : ℕ) → column < 8 → columnAt column (length lines) words ≡ map (numberIn column) lines
-rows-end {lines} {i} {words} r all few column h =
-    ext-getD 0 (columnAt column (length lines) words) (map (numberIn column) lines) (long ∙ sym (length-map lines (numberIn column)))
+pub rows-end : {room : ℕ} {lines : List (List ℕ)} {i : ℕ} {words : List ℕ} → Rows room lines i words → i ≡ length lines → i ≤ room
+    → (column : ℕ) → column < 8 → columnAt room column (length lines) words ≡ map (numberIn column) lines
+rows-end {room} {lines} {i} {words} r all few column h =
+    ext-getD 0 (columnAt room column (length lines) words) (map (numberIn column) lines) (long ∙ sym (length-map lines (numberIn column)))
     (λ k l. number k (omega (arith, l, long)))
   where
-    long : length (columnAt column (length lines) words) ≡ length lines
-    long = length-take-le (length lines) (drop (column * 4096) words) (rw length-drop (omega (arith, all, r .size)))
+    long : length (columnAt room column (length lines) words) ≡ length lines
+    long = length-take-le (length lines) (drop (column * room) words) (rw length-drop (let in-room = column-inside room column h in omega (arith, all, r .size, in-room)))
 
-    number : (k : ℕ) → k < length lines → getD (columnAt column (length lines) words) k 0 ≡ getD (map (numberIn column) lines) k 0
+    number : (k : ℕ) → k < length lines → getD (columnAt room column (length lines) words) k 0 ≡ getD (map (numberIn column) lines) k 0
     number k l =
-        getD-take (length lines) (drop (column * 4096) words) k 0 l
-        ∙ getD-drop (column * 4096) words k 0
+        getD-take (length lines) (drop (column * room) words) k 0 l
+        ∙ getD-drop (column * room) words k 0
         ∙ r .at column k h (omega (arith, all))
         ∙ sym (map-at (numberIn column) [] 0 lines k l)
 
@@ -146,3 +167,27 @@ amounts-more {f} {lines} {before} {i} {column} r h room x e =
 pub amounts-end : {f : List ℕ → ℤ} {lines : List (List ℕ)} {before : List ℤ} {i : ℕ} {column : List ℤ} → Amounts f lines before i column → i ≡ length lines → take (length lines) column ≡ map f lines
 amounts-end {f} {lines} {before} {i} {column} r all =
     ap (λ (l : List ℤ). take (length lines) l) (filled-end f lines before i column all (r .filled)) ∙ filled-take f lines (drop (length lines) before)
+
+-- ---- the columns: the first i lines are read, into columns of amounts that held `charges₀` and `usages₀`
+pub record Reading (lines : List (List ℕ)) (charges₀ usages₀ : List ℤ) (i : ℕ) (words : List ℕ) (charges usages : List ℤ) : Type 0 where
+  pub numbers : Rows (length charges₀) lines i words
+  pub charge : Amounts chargeIn lines charges₀ i charges
+  pub usage : Amounts usageIn lines usages₀ i usages
+
+pub reading-none : (lines : List (List ℕ)) (words : List ℕ) (charges usages : List ℤ) → length words ≡ 8 * length charges → Reading lines charges usages 0 words charges usages
+reading-none lines words charges usages size =
+    record { numbers = rows-none (length charges) lines words size; charge = amounts-none chargeIn lines charges; usage = amounts-none usageIn lines usages }
+
+-- one line more, whose row is stored
+module _ {lines : List (List ℕ)} {charges₀ usages₀ : List ℤ} {i : ℕ} {words : List ℕ} {charges usages : List ℤ} (r : Reading lines charges₀ usages₀ i words charges usages) where
+  pub reading-more : {row : Row} {after : List ℕ} {x y : ℤ} → i < length lines → i < length charges₀ → length usages₀ ≡ length charges₀ → RowRead (getD lines i []) row
+      → RowStored (length charges₀) words i (row .numbers) 8 after → x ≡ row .charge → y ≡ row .usage → Reading lines charges₀ usages₀ (i + 1) after (set charges i x) (set usages i y)
+  reading-more {x = x} {y = y} h small space line stored p q =
+      record {
+        numbers = rows-more (r .numbers) small stored (line .numbers);
+        charge = amounts-more (r .charge) h small x (p ∙ line .charge);
+        usage = amounts-more (r .usage) h (omega (arith, small, space)) y (q ∙ line .usage);
+      }
+
+  pub reading-end : i ≡ length lines → i ≤ length charges₀ → ColumnsRead lines words charges usages
+  reading-end all few = record { numbers = λ column h. ap (λ (room : ℕ). columnAt room column (length lines) words) (r .charge .size) ∙ rows-end (r .numbers) all few column h; charges = amounts-end (r .charge) all; usages = amounts-end (r .usage) all }

@@ -1,10 +1,12 @@
 // Columns: the numbers and amounts of each record, read once; and columns that are made of other columns.
 ghost use mathlib.Core.Path.{_≡_};
-ghost use Prim.Native.Nat.{_≤_, _<_};
-ghost use lib.ListN.{length, take};
-ghost use Rattle.text.specs.Text.{linesOf, part, parts, Placed};
-ghost use Rattle.columns.specs.Columns.{fieldOf, held, columnAt, ColumnsRead};
-ghost use Rattle.columns.specs.Rows.{fieldAmong, RowRead, RowStored};
+ghost use Prim.Native.Nat.{_*_, _≤_, _<_};
+ghost use lib.ListN.{length};
+ghost use Rattle.calendar.specs.Calendar.{firstDays};
+ghost use Rattle.text.specs.Text.{linesOf, part, Placed};
+ghost use Rattle.records.specs.Records.{fieldsAt, FieldsPlaced};
+ghost use Rattle.columns.specs.Columns.{held, columnAt, Room, ColumnsRead};
+ghost use Rattle.columns.specs.Rows.{fieldRow, RowAmong, RowRead, RowStored};
 use calendar::Day;
 use digits::Number;
 use units::Charge;
@@ -31,34 +33,48 @@ const CHARGE: usize = 8;
 
 const USAGE: usize = 9;
 
-// Which field of each record type a column reads, counted from 1; 0 says none.
-const FIELDS: [[usize; 9]; 10] = [
-    [3, 3, 3, 3, 3, 3, 3, 3, 3],
-    [1, 1, 1, 1, 1, 1, 1, 1, 1],
-    [2, 2, 2, 2, 2, 2, 2, 2, 2],
-    [0, 4, 4, 4, 4, 4, 4, 4, 0],
-    [0, 0, 8, 0, 0, 0, 0, 7, 0],
-    [0, 5, 5, 5, 5, 5, 5, 0, 0],
-    [0, 6, 6, 6, 6, 6, 6, 0, 0],
-    [0, 0, 7, 7, 7, 7, 7, 6, 0],
-    [0, 14, 14, 0, 0, 0, 18, 10, 5],
-    [0, 12, 12, 16, 0, 0, 0, 0, 0],
-];
+// Which field of a record type each column reads, counted from 1; 0 says none.
+// A type has a table of its own, since a table is put onto the stack where it is read.
+const FH_FIELDS: [usize; 10] = [3, 1, 2, 0, 0, 0, 0, 0, 0, 0];
 
-fn field_of(column: usize, record_type: u64) -> usize
-    ensures { λ r. ⌜ r ≡ fieldOf column record_type ⌝ }
+const SH_FIELDS: [usize; 10] = [3, 1, 2, 4, 0, 5, 6, 0, 14, 12];
+
+const TH_FIELDS: [usize; 10] = [3, 1, 2, 4, 8, 5, 6, 7, 14, 12];
+
+const DU_FIELDS: [usize; 10] = [3, 1, 2, 4, 0, 5, 6, 7, 0, 16];
+
+const DD_FIELDS: [usize; 10] = [3, 1, 2, 4, 0, 5, 6, 7, 0, 0];
+
+const DM_FIELDS: [usize; 10] = [3, 1, 2, 4, 0, 5, 6, 7, 0, 0];
+
+const CH_FIELDS: [usize; 10] = [3, 1, 2, 4, 0, 5, 6, 7, 18, 0];
+
+const OC_FIELDS: [usize; 10] = [3, 1, 2, 4, 7, 0, 0, 6, 10, 0];
+
+const FT_FIELDS: [usize; 10] = [3, 1, 2, 0, 0, 0, 0, 0, 5, 0];
+
+pub fn fields_of(record_type: u64) -> [usize; 10]
+    ensures { λ r. ⌜ r ≡ fieldRow record_type ⌝ }
 {
-    if 10 <= column {
-        return 0;
-    }
     if 9 <= record_type {
-        return 0;
+        return [0; 10];
     }
-    FIELDS[column][record_type as usize]
+    match record_type {
+        0 => FH_FIELDS,
+        1 => SH_FIELDS,
+        2 => TH_FIELDS,
+        3 => DU_FIELDS,
+        4 => DD_FIELDS,
+        5 => DM_FIELDS,
+        6 => CH_FIELDS,
+        7 => OC_FIELDS,
+        _ => FT_FIELDS,
+    }
 }
 
-// What a column of numbers holds for a field.
-fn held_field(column: usize, s: &[u8]) -> u64
+// What a column of numbers holds for a field, by the calendar's table of first days.
+fn held_field(table: &[u64], column: usize, s: &[u8]) -> u64
+    requires { ⌜ now table ≡ firstDays ⌝ }
     ensures { λ r. ⌜ r ≡ held column (now (s .entry)) ⌝ }
 {
     if column < 5 {
@@ -68,7 +84,7 @@ fn held_field(column: usize, s: &[u8]) -> u64
         };
     }
     if column < 7 {
-        return match calendar::day_of(s) {
+        return match calendar::read_day(table, s) {
             Day::At(d) => d + 1,
             Day::NotADate => 0,
         };
@@ -76,58 +92,38 @@ fn held_field(column: usize, s: &[u8]) -> u64
     if lists::same_bytes(s, b"Y") { 1 } else { 0 }
 }
 
-// The field that a column reads of a record, whose fields stand at the first count of starts and ends; empty where there is none.
-fn column_field<'a, 'b>(
-    file: &'a [u8],
-    starts: &'b [usize; 24],
-    ends: &'b [usize; 24],
-    count: usize,
-    column: usize,
-    record_type: u64,
-) -> &'a [u8]
-    requires { ⌜ count ≤ 24 ⌝ }
-    requires { ⌜ Placed (now file) count (now starts) (now ends) (parts (now file) (take count (now starts)) (take count (now ends))) ⌝ }
-    ensures { λ r. ⌜ now r ≡ fieldAmong (parts (now (file .entry)) (take count (now (starts .entry))) (take count (now (ends .entry)))) (fieldOf column record_type) ⌝ }
-{
-    let k = field_of(column, record_type);
-    if k == 0 {
-        return &file[0..0];
-    }
-    if count < k {
-        return &file[0..0];
-    }
-    let a = starts[k - 1];
-    let e = ends[k - 1];
-    &file[a..e]
-}
-
 // What is read of a line.
-struct Row {
-    numbers: [u64; 8],
-    charge: i64,
-    usage: i64,
+pub struct Row {
+    pub numbers: [u64; 8],
+    pub charge: i64,
+    pub usage: i64,
 }
 
-// The numbers and amounts of the line from a to e, whose record is read once.
-fn row_at(file: &[u8], a: usize, e: usize) -> Row
-    requires { ⌜ (a ≤ e) × (e ≤ length (now file)) ⌝ }
-    ensures { λ r. ⌜ RowRead (part (now (file .entry)) a e) r ⌝ }
+// The numbers and amounts of a record of a type, whose fields stand at the first count of starts and ends.
+pub fn row_of<'a>(
+    table: &[u64],
+    file: &[u8],
+    starts: &'a [usize; 24],
+    ends: &'a [usize; 24],
+    count: usize,
+    record_type: u64,
+) -> Row
+    requires { ⌜ now table ≡ firstDays ⌝ }
+    requires { ⌜ FieldsPlaced (now file) count (now starts) (now ends) ⌝ }
+    ensures { λ r. ⌜ RowAmong record_type (fieldsAt (now (file .entry)) count (now (starts .entry)) (now (ends .entry))) r ⌝ }
 {
-    let r = records::record_at(file, a, e);
-    let record_type = r.record_type;
-    let count = r.count;
-    let starts = r.starts;
-    let ends = r.ends;
+    let fields = fields_of(record_type);
     let mut numbers = [0u64; 8];
     numbers[0] = record_type;
     let mut c: usize = 1;
     while c < 8 {
-        numbers[c] = held_field(c, column_field(file, &starts, &ends, count, c, record_type));
+        let field = records::field_among(file, starts, ends, count, fields[c]);
+        numbers[c] = held_field(table, c, field);
         c += 1;
     }
-    let charge = Charge::of(column_field(file, &starts, &ends, count, CHARGE, record_type));
+    let charge = Charge::of(records::field_among(file, starts, ends, count, fields[CHARGE]));
     let usage = Usage::of(
-        column_field(file, &starts, &ends, count, USAGE, record_type),
+        records::field_among(file, starts, ends, count, fields[USAGE]),
         14,
     );
     Row {
@@ -137,14 +133,26 @@ fn row_at(file: &[u8], a: usize, e: usize) -> Row
     }
 }
 
-// Puts the numbers of line i into their columns.
-fn store_row(words: &mut [u64], i: usize, numbers: [u64; 8])
-    requires { ⌜ (i < 4096) × (length (now words) ≡ 32768) ⌝ }
-    ensures { λ _. ⌜ RowStored (now (words .entry)) i numbers 8 (now (words .exit)) ⌝ }
+// The numbers and amounts of the line from a to e, whose record is read once.
+fn row_at(table: &[u64], file: &[u8], a: usize, e: usize) -> Row
+    requires { ⌜ now table ≡ firstDays ⌝ }
+    requires { ⌜ (a ≤ e) × (e ≤ length (now file)) ⌝ }
+    ensures { λ r. ⌜ RowRead (part (now (file .entry)) a e) r ⌝ }
+{
+    let r = records::record_at(file, a, e);
+    let starts = r.starts;
+    let ends = r.ends;
+    row_of(table, file, &starts, &ends, r.count, r.record_type)
+}
+
+// Puts the numbers of line i into their columns, which have room for so many lines.
+pub fn store_row(words: &mut [u64], room: usize, i: usize, numbers: [u64; 8])
+    requires { ⌜ (i < room) × (room ≤ 4096) × (length (now words) ≡ 8 * room) ⌝ }
+    ensures { λ _. ⌜ RowStored room (now (words .entry)) i numbers 8 (now (words .exit)) ⌝ }
 {
     let mut c: usize = 0;
     while c < 8 {
-        words[c * 4096 + i] = numbers[c];
+        words[c * room + i] = numbers[c];
         c += 1;
     }
 }
@@ -160,29 +168,31 @@ pub fn read_columns(
     usages: &mut [i64],
 )
     requires { ⌜ Placed (now file) n (now starts) (now ends) (linesOf (now file)) ⌝ }
-    requires { ⌜ (n ≤ 4096) × (length (now words) ≡ 32768) × (length (now charges) ≡ 4096) × (length (now usages) ≡ 4096) ⌝ }
+    requires { ⌜ Room n (now words) (now charges) (now usages) × (length (now charges) ≤ 4096) ⌝ }
     ensures { λ _. ⌜ ColumnsRead (linesOf (now (file .entry))) (now (words .exit)) (now (charges .exit)) (now (usages .exit)) ⌝ }
 {
+    let table = calendar::first_days();
+    let room = charges.len();
     let mut i: usize = 0;
     while i < n {
         let a = starts[i];
         let e = ends[i];
-        let row = row_at(file, a, e);
+        let row = row_at(&table, file, a, e);
         let numbers = row.numbers;
         let charge = row.charge;
         let usage = row.usage;
-        store_row(words, i, numbers);
+        store_row(words, room, i, numbers);
         charges[i] = charge;
         usages[i] = usage;
         i += 1;
     }
 }
 
-// A column of n numbers.
-pub fn column(words: &[u64], column: usize, n: usize) -> &[u64]
-    requires { ⌜ (length (now words) ≡ 32768) × (column < 8) × (n ≤ 4096) ⌝ }
-    ensures { λ r. ⌜ now r ≡ columnAt column n (now (words .entry)) ⌝ }
+// A column of n numbers, of the columns that have room for so many lines.
+pub fn column(words: &[u64], room: usize, column: usize, n: usize) -> &[u64]
+    requires { ⌜ (length (now words) ≡ 8 * room) × (room ≤ 4096) × (column < 8) × (n ≤ room) ⌝ }
+    ensures { λ r. ⌜ now r ≡ columnAt room column n (now (words .entry)) ⌝ }
 {
-    let a = column * 4096;
+    let a = column * room;
     &words[a..a + n]
 }

@@ -24,7 +24,7 @@ use Rattle.records.specs.Records.{recordFields, field, RecordFound}
 use Rattle.tables.specs.Tables.{fieldType}
 use Rattle.records.proofs.Laws.{field-at}
 use Rattle.format.specs.Format.{lineAt, someField, firstByField, unfit, unfilled}
-use Rattle.field_tests.specs.Steps.{unfilledAt}
+use Rattle.field_tests.specs.Steps.{misfilled, unfilledAt}
 use Rattle.format.proofs.Some.{some-here, some-end}
 
 pub record-of : {s : List ℕ} {n : ℕ} {bs es : List ℕ} {lines : List (List ℕ)} {r : Record} → Placed s n bs es lines
@@ -42,7 +42,7 @@ module _ {s line : List ℕ} {r : Record} (f : RecordFound s line r) (k : ℕ) (
   unfit-is known asked = rw (asked, known, f .type, field-place .same)
 
   pub unfilled-is : {answer : Bool} → answer ≡ unfilledAt (r .record_type) k (getD (r .ends) k 0 - getD (r .starts) k 0) → unfilled line k ≡ answer
-  unfolding unfilled unfilledAt
+  unfolding unfilled unfilledAt misfilled
   unfilled-is asked = rw (asked, f .type, size)
     where
       size : getD (r .ends) k 0 - getD (r .starts) k 0 ≡ length (field (k + 1) line)

@@ -3,13 +3,14 @@
 ghost use mathlib.Core.Path.{_≡_};
 ghost use Rattle.text.specs.Text.{linesOf, Placed};
 ghost use Rattle.format.specs.Format.{firstUnfit, firstUnfilled};
-ghost use Rattle.field_tests.specs.Steps.{unfilledAt};
+ghost use Rattle.field_tests.specs.Steps.{misfilled, unfilledAt};
 
 // Test 3: record by record and field by field, and stops at the first that fails.
 pub fn first_unfit(file: &[u8], starts: &[usize], ends: &[usize], n: usize) -> usize
     requires { ⌜ Placed (now file) n (now starts) (now ends) (linesOf (now file)) ⌝ }
     ensures { λ r. ⌜ r ≡ firstUnfit (linesOf (now (file .entry))) ⌝ }
 {
+    let table = calendar::first_days();
     let mut i: usize = 0;
     'records: while i < n {
         let a = starts[i];
@@ -21,7 +22,7 @@ pub fn first_unfit(file: &[u8], starts: &[usize], ends: &[usize], n: usize) -> u
         while k < count {
             let b = r.starts[k];
             let f = r.ends[k];
-            if !fields::fits(field_types::field_type(record_type, k), &file[b..f]) {
+            if !fields::fits(&table, field_types::field_type(record_type, k), &file[b..f]) {
                 break 'records;
             }
             k += 1;
@@ -32,18 +33,26 @@ pub fn first_unfit(file: &[u8], starts: &[usize], ends: &[usize], n: usize) -> u
 }
 
 // Whether the field after k others, of a record of a type, is empty where it must not be or filled where it must not be.
-fn is_unfilled(record_type: u64, k: usize, len: usize) -> bool
-    ensures { λ r. ⌜ r ≡ unfilledAt record_type k len ⌝ }
+// A mandatory field is marked so in the type's table.
+pub fn is_misfilled(record_type: u64, k: usize, mandatory: bool, len: usize) -> bool
+    ensures { λ r. ⌜ r ≡ misfilled record_type k mandatory len ⌝ }
 {
     if record_type == 0 {
         if k == 1 {
             return len != 0;
         }
     }
-    if tables::is_mandatory(record_type, k) {
+    if mandatory {
         return len == 0;
     }
     false
+}
+
+// The same, by the type's table.
+fn is_unfilled(record_type: u64, k: usize, len: usize) -> bool
+    ensures { λ r. ⌜ r ≡ unfilledAt record_type k len ⌝ }
+{
+    is_misfilled(record_type, k, tables::is_mandatory(record_type, k), len)
 }
 
 // Test 5: record by record and field by field, and stops at the first that fails.

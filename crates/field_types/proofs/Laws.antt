@@ -2,15 +2,13 @@
 -- Assumes nothing.
 use mathlib.Core.Path.{_≡_, refl, sym, _∙_, ap}
 use mathlib.Core.List.{List, [], map}
-use Prim.Native.Nat.{ℕ}
+use Prim.Native.Nat.{ℕ, _<_}
+use borrow.Author.Tests.{lt-ltb}
 use lib.ListN.{getD, List·getD-map}
 use Rattle.fields.specs.declared.FieldType.{FieldType}
 use Rattle.fields.specs.declared.FieldType.the-variants.{RecordId}
-use Rattle.tables.specs.Tables.{typeRows}
-use Rattle.field_types.specs.Codes.{codeOf, typeOfCode}
-
-abbrev pub codeRows : List (List ℕ)
-codeRows = map (λ (row : List FieldType). map codeOf row) typeRows
+use Rattle.tables.specs.Tables.{typeRows, fieldType}
+use Rattle.field_types.specs.Codes.{codeRows, typeOfCode}
 
 typesOf : List ℕ → List FieldType
 typesOf row = map typeOfCode row
@@ -19,9 +17,14 @@ same : map typesOf codeRows ≡ typeRows
 unfolding typesOf typeOfCode
 same = refl
 
-pub code-read : (type k : ℕ) → typeOfCode (getD (getD codeRows type []) k 0) ≡ getD (getD typeRows type []) k RecordId
+code-read : (type k : ℕ) → typeOfCode (getD (getD codeRows type []) k 0) ≡ getD (getD typeRows type []) k RecordId
 unfolding typesOf typeOfCode
 code-read type k =
     sym (List·getD-map typeOfCode (getD codeRows type []) k 0)
     ∙ ap (λ (row : List FieldType). getD row k RecordId) (sym (List·getD-map typesOf codeRows type []))
     ∙ ap (λ (rows : List (List FieldType)). getD (getD rows type []) k RecordId) same
+
+-- a code of a type's row
+pub row-type : (type k : ℕ) → type < 9 → k < 19 → typeOfCode (getD (getD codeRows type []) k 0) ≡ fieldType type k
+unfolding fieldType
+row-type type k h l = code-read type k ∙ rw (lt-ltb type 9 h, lt-ltb k 19 l)

@@ -1,5 +1,6 @@
 // Which bytes fit which type of field.
 ghost use mathlib.Core.Path.{_≡_};
+ghost use Rattle.calendar.specs.Calendar.{firstDays};
 ghost use Rattle.fields.specs.Fields.{isRead, isDay, isMoment, fitsType};
 use calendar::DateTime;
 use calendar::Day;
@@ -43,8 +44,9 @@ fn is_moment(t: DateTime) -> bool
     }
 }
 
-// Whether a field fits its type. An empty field fits every type.
-pub fn fits(t: FieldType, s: &[u8]) -> bool
+// Whether a field fits its type, by the calendar's table of first days. An empty field fits every type.
+pub fn fits(table: &[u64], t: FieldType, s: &[u8]) -> bool
+    requires { ⌜ now table ≡ firstDays ⌝ }
     ensures { λ r. ⌜ r ≡ fitsType t (now (s .entry)) ⌝ }
 {
     if s.len() == 0 {
@@ -54,8 +56,8 @@ pub fn fits(t: FieldType, s: &[u8]) -> bool
         FieldType::RecordId => is_read(digits::digits(s)),
         FieldType::Digits(n) => is_read(digits::fixed_digits(s, n)),
         FieldType::Number(precision, places) => amounts::is_number(s, precision, places),
-        FieldType::Date => is_day(calendar::day_of(s)),
-        FieldType::DateTime => is_moment(calendar::date_time_of(s)),
+        FieldType::Date => is_day(calendar::read_day(table, s)),
+        FieldType::DateTime => is_moment(calendar::read_date_time(table, s)),
         FieldType::Char(n) => s.len() == n,
         FieldType::Varchar(n) => s.len() <= n,
     }

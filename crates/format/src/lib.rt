@@ -9,7 +9,7 @@ ghost use Rattle.text.specs.Text.{linesOf, part, Placed};
 ghost use Rattle.format.specs.Format.{isPrintable, unformatted, firstUnformatted, misplaced, firstMisplaced};
 
 // Whether a byte of s is not 32 to 126.
-fn has_unprintable(s: &[u8]) -> bool
+pub fn has_unprintable(s: &[u8]) -> bool
     ensures { λ r. ⌜ r ≡ someBelow (λ i. not (isPrintable (getD (now (s .entry)) i 0))) (length (now (s .entry))) ⌝ }
 {
     let mut i: usize = 0;

@@ -1,7 +1,9 @@
 -- What a record's fields and its type are.
 --     fields-few, fields-many    a line has its parts as fields where these are at most 24, and none otherwise
 --     field-at, field-none       field k is the part after k - 1 others; there is no field 0, and none past the count
---     none-at, place-at          what the code answers for the place of field k
+--     number-none, number-there    the start or the end of field k
+--     place-among                the place of field k of a record
+--     record-placed, record-field    a record has the places of a line's fields
 --     type-third                 the type of a line goes by its third place
 --     fields-known               a line of a known type has its parts as fields
 -- Assumes nothing.
@@ -9,17 +11,19 @@ use mathlib.Core.Path.{_≡_, refl, sym, _∙_, ap, subst}
 use mathlib.Core.List.{List, [], _∷_}
 use mathlib.Core.Logic.{_⊎_, inr, ⊎-elim}
 use mathlib.Core.Bool.{cond}
-use Prim.Native.Nat.{ℕ, _+_, _-_, _≤_, _<_, zero-le}
+use Prim.Native.Nat.{ℕ, zero, suc, _+_, _-_, _≤_, _<_, zero-le}
 use native.Mathlib.Numerals.{add-one}
 use native.Mathlib.Omega.{arith}
 use native.Mathlib.Decide.{decLt}
 use borrow.Author.Tests.{le-leb, lt-leb, lt-ltb, le-ltb}
 use lib.Dec.{ltb}
-use lib.ListN.{length, getD, List·getD-eq-default}
+use lib.ListN.{length, getD, take, length-take, List·getD-eq-default}
+use lib.Seq.{getD-take}
 use Rattle.types.specs.Types.{typeNamed}
 use Rattle.text.specs.Text.{part, fieldsOf, Placed, At}
 use Rattle.text.proofs.Placed.{placed-at}
-use Rattle.records.specs.Records.{recordFields, field, typeIn}
+use Rattle.records.specs.Records.{recordFields, field, numberAmong, fieldAmong, fieldsAt, FieldsPlaced, typeIn, RecordFound}
+use Rattle.records.specs.declared.Record.{Record}
 
 pub fields-few : (line : List ℕ) → length (fieldsOf line) ≤ 24 → recordFields line ≡ fieldsOf line
 unfolding recordFields
@@ -38,19 +42,48 @@ pub field-none : (line : List ℕ) (k : ℕ) → (k ≡ 0) ⊎ (length (recordFi
 unfolding field
 field-none line k = ⊎-elim (λ e. rw e) (λ h. List·getD-eq-default ([] ∷ recordFields line) [] {n = k} h)
 
--- the code answers an empty part where there is no field
-pub none-at : (s line : List ℕ) (k : ℕ) → (k ≡ 0) ⊎ (length (recordFields line) < k) → At s 0 0 (field k line)
-none-at s line k h = record { low = zero-le; high = zero-le; same = sym (field-none line k h) }
+-- ---- fields by their places
+pub among-is : (line : List ℕ) (k : ℕ) → fieldAmong (recordFields line) k ≡ field k line
+unfolding fieldAmong field
+among-is line k = refl
 
--- and the place of field k, which stands after k - 1 others
-pub place-at : {s : List ℕ} {n : ℕ} {bs es : List ℕ} (line : List ℕ) (k : ℕ) → Placed s n bs es (recordFields line) → (k ≡ 0 → ⊥) → k ≤ n
-    → At s (getD bs (k - 1) 0) (getD es (k - 1) 0) (field k line)
-place-at {s} {n} {bs} {es} line k p some h =
-    subst (λ (l : List ℕ). At s (getD bs (k - 1) 0) (getD es (k - 1) 0) l) (sym (field-at line (k - 1)) ∙ ap (λ (j : ℕ). field j line) next)
-    (placed-at p (k - 1) (omega (arith, some)))
+pub number-none : (n : ℕ) (numbers : List ℕ) (k : ℕ) → (k ≡ 0) ⊎ (n < k) → numberAmong (take n numbers) k ≡ 0
+unfolding numberAmong
+number-none n numbers k = ⊎-elim (λ e. rw e) (λ h. List·getD-eq-default (0 ∷ take n numbers) 0 {n = k} (omega (arith, length-take n numbers)))
+
+pub number-there : (n : ℕ) (numbers : List ℕ) (k : ℕ) → (k ≡ 0 → ⊥) → k ≤ n → numberAmong (take n numbers) k ≡ getD numbers (k - 1) 0
+unfolding numberAmong
+number-there n numbers zero some h = absurd (some refl)
+number-there n numbers (suc k) some h = getD-take n numbers k 0 h ∙ ap (λ (j : ℕ). getD numbers j 0) before
   where
-    next : k - 1 + 1 ≡ k
-    next = omega (arith, some)
+    before : k ≡ suc k - 1
+    before = omega arith
+
+none-among : (fields : List (List ℕ)) (k : ℕ) → length fields < k → fieldAmong fields k ≡ []
+unfolding fieldAmong
+none-among fields k h = List·getD-eq-default ([] ∷ fields) [] {n = k} h
+
+-- the place of field k, which stands after k - 1 others; 0 to 0 where there is none
+pub place-among : {s : List ℕ} {n : ℕ} {bs es : List ℕ} {fields : List (List ℕ)} → Placed s n bs es fields → (k : ℕ)
+    → At s (numberAmong (take n bs) k) (numberAmong (take n es) k) (fieldAmong fields k)
+unfolding numberAmong fieldAmong
+place-among p zero = record { low = zero-le; high = zero-le; same = refl }
+place-among {s} {n} {bs} {es} {fields} p (suc k) = go (decLt k n)
+  where
+    go : Dec (k < n) → At s (numberAmong (take n bs) (suc k)) (numberAmong (take n es) (suc k)) (fieldAmong fields (suc k))
+    go (yes h) = rw (getD-take n bs k 0 h, getD-take n es k 0 h) (placed-at p k h)
+    go (no h) =
+        let past : n < suc k = omega (arith, h) in
+        rw (number-none n bs (suc k) (inr past), number-none n es (suc k) (inr past), none-among fields (suc k) (omega (arith, p .count)))
+        (record { low = zero-le; high = zero-le; same = refl })
+
+-- a record's fields, by their places
+module _ {s line : List ℕ} {r : Record} (found : RecordFound s line r) where
+  pub record-placed : FieldsPlaced s (r .count) (r .starts) (r .ends)
+  record-placed = (found .few, subst (λ (fields : List (List ℕ)). Placed s (r .count) (r .starts) (r .ends) fields) (sym (found .placed .same)) (found .placed))
+
+  pub record-field : (k : ℕ) → fieldAmong (fieldsAt s (r .count) (r .starts) (r .ends)) k ≡ field k line
+  record-field k = ap (λ (fields : List (List ℕ)). fieldAmong fields k) (found .placed .same) ∙ among-is line k
 
 -- the third field, by its place
 pub type-third : {s : List ℕ} {n : ℕ} {bs es : List ℕ} (line : List ℕ) → Placed s n bs es (recordFields line)

@@ -4,10 +4,10 @@ use Prim.Native.Nat.{ℕ, _≤_}
 use mathlib.Core.Path.{_≡_}
 use mathlib.Core.List.{List, [], _∷_}
 use mathlib.Core.Bool.{cond}
-use lib.ListN.{length, getD}
+use lib.ListN.{length, getD, take}
 use lib.Dec.{leb}
 use Rattle.types.specs.Types.{typeNamed}
-use Rattle.text.specs.Text.{fieldsOf, Placed}
+use Rattle.text.specs.Text.{fieldsOf, parts, Placed}
 use Rattle.records.specs.declared.Record.{Record}
 
 -- ---- fields
@@ -19,6 +19,23 @@ recordFields line = cond (leb (length (fieldsOf line)) 24) (fieldsOf line) []
 unfoldable pub field : ℕ → List ℕ → List ℕ
 field k line = getD ([] ∷ recordFields line) k []
 
+-- ---- fields by their places
+-- the number after k - 1 others, and 0 where there is none
+unfoldable pub numberAmong : List ℕ → ℕ → ℕ
+numberAmong numbers k = getD (0 ∷ numbers) k 0
+
+-- field k of a record's fields; empty where there is none
+unfoldable pub fieldAmong : List (List ℕ) → ℕ → List ℕ
+fieldAmong fields k = getD ([] ∷ fields) k []
+
+-- the fields that stand in s at the first `count` places
+abbrev pub fieldsAt : List ℕ → ℕ → List ℕ → List ℕ → List (List ℕ)
+fieldsAt s count bs es = parts s (take count bs) (take count es)
+
+abbrev pub FieldsPlaced : List ℕ → ℕ → List ℕ → List ℕ → Type 0
+FieldsPlaced s count bs es = (count ≤ 24) × Placed s count bs es (fieldsAt s count bs es)
+
+-- ---- records
 -- "Record types are FH, .. in field 3"
 unfoldable pub typeIn : List ℕ → ℕ
 typeIn line = typeNamed (field 3 line)

@@ -2,11 +2,11 @@
 ghost use mathlib.Core.Path.{_≡_};
 ghost use mathlib.Core.Bool.{cond};
 ghost use Prim.Native.Nat.{_≤_, _<_};
-ghost use lib.ListN.{length};
+ghost use lib.ListN.{length, take};
 ghost use lib.Dec.{ltb};
 ghost use Rattle.text.specs.Text.{part, At};
 ghost use Rattle.types.specs.Types.{typeNamed};
-ghost use Rattle.records.specs.Records.{field, RecordFound};
+ghost use Rattle.records.specs.Records.{field, numberAmong, fieldAmong, fieldsAt, FieldsPlaced, RecordFound};
 
 // A record's type is its place among FH, SH, TH, DU, DD, DM, CH, OC, FT, or 9. A line of more than 24 fields has type 9 and count 0.
 pub struct Record {
@@ -63,6 +63,37 @@ pub fn record_at(file: &[u8], start: usize, end: usize) -> Record
 // Where a field stands: its start and its end.
 pub struct Place(pub usize, pub usize);
 
+// The place of field k, counted from 1, of a record whose fields stand at the first count of starts and ends; 0 to 0 where there is none.
+fn place_among(starts: &[usize; 24], ends: &[usize; 24], count: usize, k: usize) -> Place
+    requires { ⌜ count ≤ 24 ⌝ }
+    ensures { λ r. ⌜ (r .0 ≡ numberAmong (take count (now (starts .entry))) k) × (r .1 ≡ numberAmong (take count (now (ends .entry))) k) ⌝ }
+{
+    if k == 0 {
+        return Place(0, 0);
+    }
+    if count < k {
+        return Place(0, 0);
+    }
+    Place(starts[k - 1], ends[k - 1])
+}
+
+// Field k, counted from 1, of a record whose fields stand at the first count of starts and ends; empty where there is none.
+pub fn field_among<'a, 'b>(
+    file: &'a [u8],
+    starts: &'b [usize; 24],
+    ends: &'b [usize; 24],
+    count: usize,
+    k: usize,
+) -> &'a [u8]
+    requires { ⌜ FieldsPlaced (now file) count (now starts) (now ends) ⌝ }
+    ensures { λ r. ⌜ now r ≡ fieldAmong (fieldsAt (now (file .entry)) count (now (starts .entry)) (now (ends .entry))) k ⌝ }
+{
+    let place = place_among(starts, ends, count, k);
+    let a = place.0;
+    let e = place.1;
+    &file[a..e]
+}
+
 // The place of field k, counted from 1, of the line from a to e; an empty part where the record has no such field.
 pub fn field_at(file: &[u8], a: usize, e: usize, k: usize) -> Place
     requires { ⌜ (a ≤ e) × (e ≤ length (now file)) ⌝ }
@@ -70,13 +101,7 @@ pub fn field_at(file: &[u8], a: usize, e: usize, k: usize) -> Place
 {
     let r = record_at(file, a, e);
     let count = r.count;
-    if k == 0 {
-        return Place(0, 0);
-    }
-    if count < k {
-        return Place(0, 0);
-    }
-    let b = r.starts[k - 1];
-    let f = r.ends[k - 1];
-    Place(b, f)
+    let starts = r.starts;
+    let ends = r.ends;
+    place_among(&starts, &ends, count, k)
 }

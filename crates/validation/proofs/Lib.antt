@@ -1,4 +1,5 @@
 pub mod Accepted
+pub mod Certified
 pub mod Columns
 pub mod Joined
 pub mod Limits

@@ -12,7 +12,7 @@ use lib.IntN.{ℤ}
 use Rattle.digits.specs.Digits.{allDigits}
 use Rattle.text.specs.Text.{linesOf, Placed}
 use Rattle.types.specs.Types.{SH, TH, DU, CH, OC, FT}
-use Rattle.columns.specs.Columns.{numberIn, chargeIn, usageIn, recordType, recordId, parentId, site, startDay, endDay, cancel, ColumnsRead}
+use Rattle.columns.specs.Columns.{numberIn, chargeIn, usageIn, recordType, recordId, parentId, site, startDay, endDay, cancel, Room, ColumnsRead}
 use Rattle.groups.specs.Groups.{parentPlaces, picked, places, ones}
 use Rattle.format.specs.Format.{lineAt, firstUnformatted, firstUnfit, firstMisplaced, firstUnfilled, firstMiscoded}
 use Rattle.identity.specs.Identity.{firstRepeated, firstUnlike}
@@ -168,7 +168,6 @@ pub record Read (file : List ℕ) (n : ℕ) (starts ends words : List ℕ) (char
   pub placed : Placed file n starts ends (linesOf file)
   pub few : n ≤ 4096
   pub some : 1 ≤ n
-  pub words-length : length words ≡ 32768
-  pub charges-length : length charges ≡ 4096
-  pub usages-length : length usages ≡ 4096
+  pub room : Room n words charges usages
+  pub most : length charges ≤ 4096
   pub columns : ColumnsRead (linesOf file) words charges usages

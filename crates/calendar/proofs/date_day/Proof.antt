@@ -37,8 +37,8 @@ returns-6 c = sym (date-is-not _ _ _ (λ date. omega arith))
 first-day-requires : tie.Need-first-day-requires
 first-day-requires c κs = search needs
 
-add-t6 : tie.Need-add-t6
-add-t6 c = search needs
+add-t7 : tie.Need-add-t7
+add-t7 c = search needs
 
 returns-7 : tie.Need-returns-7
 returns-7 c = rw (c .first-day .ensures .0) (sym (date-is _ _ _ (omega arith)))
@@ -57,5 +57,5 @@ date-day-spec =
     month-days-requires
     returns-6
     first-day-requires
-    add-t6
+    add-t7
     returns-7)

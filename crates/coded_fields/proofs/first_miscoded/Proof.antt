@@ -35,23 +35,20 @@ returns : tie.Need-returns Inv-loop μ-loop
 unfolding firstMiscoded
 returns c = sym (scan-end (c .before .before .before .before .pre) (codes (now (c .before .before .before .before .args .file))) 0 (omega arith) (scan-none (c .before .before .before .before .pre) (codes (now (c .before .before .before .before .args .file)))))
 
-shared-slice-read-has-text : tie.Need-shared-slice-read-has-text Inv-loop μ-loop
-shared-slice-read-has-text c = omega (arith, c .before .before .before .before .before .pre .starts, c .before .if1 .left)
+shared-slice-read-is-electric : tie.Need-shared-slice-read-is-electric Inv-loop μ-loop
+shared-slice-read-is-electric c = omega (arith, c .before .before .before .before .before .pre .starts, c .before .if1 .left)
 
-shared-slice-read-has-text-2 : tie.Need-shared-slice-read-has-text-2 Inv-loop μ-loop
-shared-slice-read-has-text-2 c = omega (arith, c .before .before .before .before .before .before .pre .ends, c .before .before .if1 .left)
+shared-slice-read-is-electric-2 : tie.Need-shared-slice-read-is-electric-2 Inv-loop μ-loop
+shared-slice-read-is-electric-2 c = omega (arith, c .before .before .before .before .before .before .pre .ends, c .before .before .if1 .left)
 
-slice-aggregate-has-text : tie.Need-slice-aggregate-has-text Inv-loop μ-loop
-slice-aggregate-has-text c = search needs
-
-has-text-requires : tie.Need-has-text-requires Inv-loop μ-loop
-has-text-requires c κs = let l = placed-at (c .before .before .before .before .before .before .before .pre) 0 (omega (arith, c .before .before .before .if1 .left)) in (l .low, l .high)
+is-electric-requires : tie.Need-is-electric-requires Inv-loop μ-loop
+is-electric-requires c κs = let l = placed-at (c .before .before .before .before .before .before .pre) 0 (omega (arith, c .before .before .if1 .left)) in (l .low, l .high)
 
 loop-holds : tie.Need-loop-holds Inv-loop μ-loop
 loop-holds c = (
   omega arith,
-  unit-is (lineAt (linesOf (now (c .before .before .before .before .before .before .before .before .args .file))) 0) (c .has-text .ensures ∙ ap (λ (l : List ℕ). sameBytes (field 6 l) (written "EL")) (placed-at (c .before .before .before .before .before .before .before .before .pre) 0 (omega (arith, c .before .before .before .before .if1 .left)) .same)),
-  scan-none (c .before .before .before .before .before .before .before .before .pre) (codes (now (c .before .before .before .before .before .before .before .before .args .file))),
+  unit-is (lineAt (linesOf (now (c .before .before .before .before .before .before .before .args .file))) 0) (c .is-electric .ensures ∙ ap (λ (l : List ℕ). sameBytes (field 6 l) (written "EL")) (placed-at (c .before .before .before .before .before .before .before .pre) 0 (omega (arith, c .before .before .before .if1 .left)) .same)),
+  scan-none (c .before .before .before .before .before .before .before .pre) (codes (now (c .before .before .before .before .before .before .before .args .file))),
 )
 
 mul-a : tie.Need-mul-a Inv-loop μ-loop
@@ -67,15 +64,15 @@ shared-slice-read-e : tie.Need-shared-slice-read-e Inv-loop μ-loop
 shared-slice-read-e c = search needs
 
 is-miscoded-requires : tie.Need-is-miscoded-requires Inv-loop μ-loop
-is-miscoded-requires c κs = let l = placed-at (c .before .before .before .before .before .before .before .before .before .before .before .before .pre) (c .before .before .before .loop .i) (c .before .before .loop-test .taken) in (l .low, l .high)
+is-miscoded-requires c κs = let l = placed-at (c .before .before .before .before .before .before .before .before .before .before .before .pre) (c .before .before .before .loop .i) (c .before .before .loop-test .taken) in (l .low, l .high)
 
 -- what is asked of the line at i
-asked : (c : tie.After-is-miscoded Inv-loop μ-loop) → codes (now (c .before .before .before .before .before .before .before .before .before .before .before .before .before .args .file)) (part (now (c .before .before .before .before .before .before .before .before .before .before .before .before .before .args .file)) (getD (now (c .before .before .before .before .before .before .before .before .before .before .before .before .before .args .starts)) (c .before .before .before .before .loop .i) 0) (getD (now (c .before .before .before .before .before .before .before .before .before .before .before .before .before .args .ends)) (c .before .before .before .before .loop .i) 0)) ≡ c .is-miscoded .result
+asked : (c : tie.After-is-miscoded Inv-loop μ-loop) → codes (now (c .before .before .before .before .before .before .before .before .before .before .before .before .args .file)) (part (now (c .before .before .before .before .before .before .before .before .before .before .before .before .args .file)) (getD (now (c .before .before .before .before .before .before .before .before .before .before .before .before .args .starts)) (c .before .before .before .before .loop .i) 0) (getD (now (c .before .before .before .before .before .before .before .before .before .before .before .before .args .ends)) (c .before .before .before .before .loop .i) 0)) ≡ c .is-miscoded .result
 asked c = rw (← c .before .before .before .before .loop .inv .1) (sym (c .is-miscoded .ensures))
 
 returns-2 : tie.Need-returns-2 Inv-loop μ-loop
 unfolding firstMiscoded
-returns-2 c = sym (scan-here (c .before .before .before .before .before .before .before .before .before .before .before .before .before .before .pre) (codes (now (c .before .before .before .before .before .before .before .before .before .before .before .before .before .before .args .file))) (c .before .before .before .before .before .loop .i) (c .before .before .before .before .loop-test .taken) (c .before .before .before .before .before .loop .inv .2) (asked (c .before) ∙ c .if2 .taken))
+returns-2 c = sym (scan-here (c .before .before .before .before .before .before .before .before .before .before .before .before .before .pre) (codes (now (c .before .before .before .before .before .before .before .before .before .before .before .before .before .args .file))) (c .before .before .before .before .before .loop .i) (c .before .before .before .before .loop-test .taken) (c .before .before .before .before .before .loop .inv .2) (asked (c .before) ∙ c .if2 .taken))
 
 add-i : tie.Need-add-i Inv-loop μ-loop
 add-i c = search needs
@@ -87,12 +84,12 @@ loop-again : tie.Need-loop-again Inv-loop μ-loop
 loop-again c = (
   omega arith,
   c .before .before .before .before .before .loop .inv .1,
-  scan-more (c .before .before .before .before .before .before .before .before .before .before .before .before .before .before .pre) (codes (now (c .before .before .before .before .before .before .before .before .before .before .before .before .before .before .args .file))) (c .before .before .before .before .before .loop .i) (c .before .before .before .before .loop-test .taken) (c .before .before .before .before .before .loop .inv .2) (asked (c .before) ∙ c .if2 .left),
+  scan-more (c .before .before .before .before .before .before .before .before .before .before .before .before .before .pre) (codes (now (c .before .before .before .before .before .before .before .before .before .before .before .before .before .args .file))) (c .before .before .before .before .before .loop .i) (c .before .before .before .before .loop-test .taken) (c .before .before .before .before .before .loop .inv .2) (asked (c .before) ∙ c .if2 .left),
 )
 
 returns-3 : tie.Need-returns-3 Inv-loop μ-loop
 unfolding firstMiscoded
-returns-3 c = sym (scan-end (c .before .before .before .before .before .before .before .before .before .before .pre) (codes (now (c .before .before .before .before .before .before .before .before .before .before .args .file))) (c .before .loop .i) (c .loop-test .left) (c .before .loop .inv .2))
+returns-3 c = sym (scan-end (c .before .before .before .before .before .before .before .before .before .pre) (codes (now (c .before .before .before .before .before .before .before .before .before .args .file))) (c .before .loop .i) (c .loop-test .left) (c .before .loop .inv .2))
 
 pub first-miscoded-spec : {M : Type 1} → statement M
 first-miscoded-spec =
@@ -101,10 +98,9 @@ first-miscoded-spec =
     Inv-loop
     μ-loop
     returns
-    shared-slice-read-has-text
-    shared-slice-read-has-text-2
-    slice-aggregate-has-text
-    has-text-requires
+    shared-slice-read-is-electric
+    shared-slice-read-is-electric-2
+    is-electric-requires
     loop-holds
     mul-a
     shared-slice-read-a

@@ -18,7 +18,7 @@ enum-known-n : tie.Need-enum-known-n
 enum-known-n c = search needs
 
 add-result : tie.Need-add-result
-add-result c = record { fits = omega (arith, number-small (now (c .before .before .before .before .before .before .args .s)) (c .before .n .given .0 .0) (sym (c .before .before .before .digits .ensures) ∙ c .before .n .given .1)) }
+add-result c = record { fits = omega (arith, number-small (now (c .before .before .before .before .before .before .before .args .s)) (c .before .n .given .0 .0) (sym (c .before .before .before .digits .ensures) ∙ c .before .n .given .1)) }
 
 enum-told : tie.Need-enum-told
 enum-told c = search needs
@@ -31,25 +31,25 @@ returns-2 : tie.Need-returns-2
 unfolding held
 returns-2 c = simp (lt-ltb _ _ (c .before .before .before .if1 .taken), ← c .before .before .digits .ensures, c .enum-told .given .1)
 
-day-of-requires : tie.Need-day-of-requires
-day-of-requires c κs = search needs
+read-day-requires : tie.Need-read-day-requires
+read-day-requires c κs = search needs
 
 enum-known-d : tie.Need-enum-known-d
 enum-known-d c = search needs
 
 add-result-2 : tie.Need-add-result-2
-add-result-2 c = record { fits = omega (arith, day-bound (now (c .before .before .before .before .before .before .before .args .s)) (c .before .d .given .0 .0) (sym (c .before .before .before .day-of .ensures) ∙ c .before .d .given .1)) }
+add-result-2 c = record { fits = omega (arith, day-bound (now (c .before .before .before .before .before .before .before .before .args .s)) (c .before .d .given .0 .0) (sym (c .before .before .before .read-day .ensures) ∙ c .before .d .given .1)) }
 
 enum-told-2 : tie.Need-enum-told-2
 enum-told-2 c = search needs
 
 returns-3 : tie.Need-returns-3
 unfolding held
-returns-3 c = simp (le-ltb _ _ (c .before .before .before .before .before .if1 .left), lt-ltb _ _ (c .before .before .before .before .if2 .taken), ← c .before .before .before .day-of .ensures, c .before .d .given .1)
+returns-3 c = simp (le-ltb _ _ (c .before .before .before .before .before .if1 .left), lt-ltb _ _ (c .before .before .before .before .if2 .taken), ← c .before .before .before .read-day .ensures, c .before .d .given .1)
 
 returns-4 : tie.Need-returns-4
 unfolding held
-returns-4 c = simp (le-ltb _ _ (c .before .before .before .before .if1 .left), lt-ltb _ _ (c .before .before .before .if2 .taken), ← c .before .before .day-of .ensures, c .enum-told2 .given .1)
+returns-4 c = simp (le-ltb _ _ (c .before .before .before .before .if1 .left), lt-ltb _ _ (c .before .before .before .if2 .taken), ← c .before .before .read-day .ensures, c .enum-told2 .given .1)
 
 slice-aggregate-same-bytes : tie.Need-slice-aggregate-same-bytes
 slice-aggregate-same-bytes c = search needs
@@ -75,7 +75,7 @@ held-field-spec =
     enum-told
     returns
     returns-2
-    day-of-requires
+    read-day-requires
     enum-known-d
     add-result-2
     enum-told-2

@@ -1,33 +1,20 @@
--- `is_unfilled` meets its contract: past the first test the field is not FH's Parent ID, and the Mandatory mark decides.
+-- `is_unfilled` meets its contract: the mark is that of the table.
 -- Assumes nothing.
 use Rattle.field_tests.specs.Steps.{unfilledAt}
-use lib.Dec.{eqb}
-use borrow.Author.Tests.{eq-eqb, ne-eqb}
-use mathlib.Core.Logic.{⊎-elim}
-use mathlib.Core.Bool.{false, _&&_, and-false}
-use mathlib.Core.Path.{_≡_, sym, _∙_}
+use mathlib.Core.Path.{_≡_}
 use borrow.Author.Needs.{needs}
 use Rattle.field_tests.proofs.is_unfilled.Statement.{statement}
 use Rattle.field_tests.proofs.is_unfilled.Tie as tie
 
-returns : tie.Need-returns
-unfolding unfilledAt
-returns c = simp (eq-eqb _ _ (c .before .if1 .taken), eq-eqb _ _ (c .if2 .taken))
-
--- past the first test: it is not the Parent ID of FH
-other : (c : tie.Joined1) → (eqb (c .before .args .record-type) 0 && eqb (c .before .args .k) 1) ≡ false
-other c = ⊎-elim (λ w. simp (ne-eqb (c .before .args .k) 1 (w .1 .left), and-false)) (λ w. simp (ne-eqb (c .before .args .record-type) 0 (w .left))) (c .if1 .came)
-
 is-mandatory-requires : tie.Need-is-mandatory-requires
 is-mandatory-requires c κs = search needs
 
-returns-2 : tie.Need-returns-2
-unfolding unfilledAt
-returns-2 c = simp (other (c .before .before), sym (c .before .is-mandatory .ensures) ∙ c .if3 .taken)
+is-misfilled-requires : tie.Need-is-misfilled-requires
+is-misfilled-requires c κs = search needs
 
-returns-3 : tie.Need-returns-3
+returns : tie.Need-returns
 unfolding unfilledAt
-returns-3 c = simp (other (c .before .before), sym (c .before .is-mandatory .ensures) ∙ c .if3 .left)
+returns c = rw (← c .before .is-mandatory .ensures) (c .is-misfilled .ensures)
 
 pub is-unfilled-spec : {M : Type 1} → statement M
-is-unfilled-spec = tie.close (tie.spec returns is-mandatory-requires returns-2 returns-3)
+is-unfilled-spec = tie.close (tie.spec is-mandatory-requires is-misfilled-requires returns)

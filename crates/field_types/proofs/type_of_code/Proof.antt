@@ -33,7 +33,7 @@ returns-6 c = rw (c .match .keys6)
 returns-7 : tie.Need-returns-7
 unfolding typeOfCode
 returns-7 c =
-    let kind = c .before .args .code / 10000 in
+    let kind = c .before .args .code / 65536 in
     let no = c .match .rest in
     simp (
       ne-eqb kind 1 (no .0 .0 .0 .0 .0 .1),

@@ -38,8 +38,8 @@ is-number-requires c κs = search needs
 enum-told-2 : tie.Need-enum-told-2
 enum-told-2 c = search needs
 
-day-of-requires : tie.Need-day-of-requires
-day-of-requires c κs = search needs
+read-day-requires : tie.Need-read-day-requires
+read-day-requires c κs = search needs
 
 is-day-requires : tie.Need-is-day-requires
 is-day-requires c κs = search needs
@@ -47,8 +47,8 @@ is-day-requires c κs = search needs
 enum-told-3 : tie.Need-enum-told-3
 enum-told-3 c = search needs
 
-date-time-of-requires : tie.Need-date-time-of-requires
-date-time-of-requires c κs = search needs
+read-date-time-requires : tie.Need-read-date-time-requires
+read-date-time-requires c κs = search needs
 
 is-moment-requires : tie.Need-is-moment-requires
 is-moment-requires c κs = search needs
@@ -73,11 +73,11 @@ returns-4 c = simp (ne-eqb _ _ (c .before .before .before .before .if1 .left), c
 
 returns-5 : tie.Need-returns-5
 unfolding fitsType
-returns-5 c = simp (ne-eqb _ _ (c .before .before .before .before .if1 .left), c .before .before .enum-told2 .given .1, ← c .before .day-of .ensures, ← c .is-day .ensures)
+returns-5 c = simp (ne-eqb _ _ (c .before .before .before .before .if1 .left), c .before .before .enum-told2 .given .1, ← c .before .read-day .ensures, ← c .is-day .ensures)
 
 returns-6 : tie.Need-returns-6
 unfolding fitsType
-returns-6 c = simp (ne-eqb _ _ (c .before .before .before .before .if1 .left), c .before .before .enum-told3 .given .1, ← c .before .date-time-of .ensures, ← c .is-moment .ensures)
+returns-6 c = simp (ne-eqb _ _ (c .before .before .before .before .if1 .left), c .before .before .enum-told3 .given .1, ← c .before .read-date-time .ensures, ← c .is-moment .ensures)
 
 returns-7 : tie.Need-returns-7
 unfolding fitsType
@@ -101,10 +101,10 @@ fits-spec =
     enum-known-t-2
     is-number-requires
     enum-told-2
-    day-of-requires
+    read-day-requires
     is-day-requires
     enum-told-3
-    date-time-of-requires
+    read-date-time-requires
     is-moment-requires
     enum-known-t-3
     enum-known-t-4

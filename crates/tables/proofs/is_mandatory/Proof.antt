@@ -1,10 +1,13 @@
--- `is_mandatory` meets its contract: the constant computes to the marks of the tables.
+-- `is_mandatory` meets its contract: the mark is that of the type's row.
 -- Assumes nothing.
 use Rattle.tables.specs.Tables.{isMandatory}
-use mathlib.Core.Path.{_≡_}
-use mathlib.Core.Bool.{and-false}
-use borrow.Author.Tests.{lt-ltb, le-ltb}
+use mathlib.Core.Path.{_≡_, _∙_, ap}
+use mathlib.Core.List.{List}
+use mathlib.Core.Bool.{Bool, false, and-false}
+use lib.ListN.{getD}
+use borrow.Author.Tests.{le-ltb}
 use borrow.Author.Needs.{needs}
+use Rattle.tables.proofs.Laws.{row-mark}
 use Rattle.tables.proofs.is_mandatory.Statement.{statement}
 use Rattle.tables.proofs.is_mandatory.Tie as tie
 
@@ -16,19 +19,17 @@ returns-2 : tie.Need-returns-2
 unfolding isMandatory
 returns-2 c = simp (le-ltb _ _ (c .if2 .taken), and-false)
 
-mul-result : tie.Need-mul-result
-mul-result c = search needs
+marks-of-requires : tie.Need-marks-of-requires
+marks-of-requires c κs = search needs
 
-index-1-result : tie.Need-index-1-result
-index-1-result c = search needs
-
-index-2-result : tie.Need-index-2-result
-index-2-result c = search needs
+array-read-result : tie.Need-array-read-result
+array-read-result c = search needs
 
 returns-3 : tie.Need-returns-3
-unfolding isMandatory
-returns-3 c = simp (lt-ltb _ _ (c .before .before .if1 .left), lt-ltb _ _ (c .before .if2 .left))
+returns-3 c =
+    let a = c .before .before .before .args in
+    ap (λ (row : List Bool). getD row (a .k) false) (c .marks-of .ensures) ∙ row-mark (a .record-type) (a .k) (c .before .before .if1 .left) (c .before .if2 .left)
 
 pub is-mandatory-spec : {M : Type 1} → statement M
 is-mandatory-spec =
-    tie.close (tie.spec returns returns-2 mul-result index-1-result index-2-result returns-3)
+    tie.close (tie.spec returns returns-2 marks-of-requires array-read-result returns-3)

@@ -1,0 +1,9 @@
+pub mod CodeFields
+pub mod Codes
+pub mod FieldKinds
+pub mod Fields
+pub mod Heads
+pub mod Held
+pub mod Lines
+pub mod Rows
+pub mod Texts

@@ -1,0 +1,5 @@
+pub mod Ends
+pub mod Runs
+pub mod Ids
+pub mod Texts
+pub mod Magnitudes

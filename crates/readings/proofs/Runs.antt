@@ -1,0 +1,36 @@
+-- A loop over the digits at the start of s, which has read i of them.
+--     run-digits, run-value    one digit more
+--     run-bound                i digits say less than the i-th power of ten
+-- Assumes nothing.
+use mathlib.Core.Path.{_≡_, refl, subst}
+use mathlib.Core.List.{List, [], _∷_, _++_}
+use mathlib.Core.Bool.{true}
+use Prim.Native.Nat.{ℕ, _+_, _-_, _*_, _^_, _≤_, _<_}
+use native.Mathlib.Numerals.{add-one}
+use borrow.Author.Tests.{le-leb}
+use lib.ListN.{length, take, getD}
+use lib.Seq.{take-suc, length-take-le}
+use Rattle.digits.specs.Digits.{isDigit, allDigits, followedBy, numberOf}
+use Rattle.digits.proofs.Laws.{both-true, number-bound}
+
+digits-and-one : (t : List ℕ) (b : ℕ) → allDigits t ≡ true → 48 ≤ b → b ≤ 57 → allDigits (t ++ (b ∷ [])) ≡ true
+unfolding allDigits
+digits-and-one [] b d l u = simp (le-leb _ _ l, le-leb _ _ u)
+digits-and-one (a ∷ t) b d l u =
+    let q = both-true (isDigit a) (allDigits t) d in
+    simp (q .0, digits-and-one t b (q .1) l u)
+
+followed-and-one : (t : List ℕ) (v b : ℕ) → followedBy v (t ++ (b ∷ [])) ≡ followedBy v t * 10 + (b - 48)
+unfolding followedBy
+followed-and-one [] v b = refl
+followed-and-one (a ∷ t) v b = followed-and-one t (v * 10 + (a - 48)) b
+
+module _ (s : List ℕ) (i : ℕ) where
+  pub run-digits : i < length s → allDigits (take i s) ≡ true → 48 ≤ getD s i 0 → getD s i 0 ≤ 57 → allDigits (take (i + 1) s) ≡ true
+  run-digits h d l u = rw (add-one, take-suc s i 0 h) (digits-and-one (take i s) (getD s i 0) d l u)
+
+  pub run-value : i < length s → numberOf (take (i + 1) s) ≡ numberOf (take i s) * 10 + (getD s i 0 - 48)
+  run-value h = rw (add-one, take-suc s i 0 h) (followed-and-one (take i s) 0 (getD s i 0))
+
+  pub run-bound : i ≤ length s → allDigits (take i s) ≡ true → numberOf (take i s) < 10 ^ i
+  run-bound h d = subst (λ (m : ℕ). numberOf (take i s) < 10 ^ m) (length-take-le i s h) (number-bound (take i s) d)

@@ -1,0 +1,71 @@
+-- `readings::read_char` meets its contract: the bytes at the start end the field, and are as many as the width.
+-- Assumes nothing.
+use Rattle.readings.proofs.Texts.{char-read}
+use Rattle.readings.proofs.Ends.{empty-read}
+use Rattle.readings.specs.Readings.{Ends}
+use Rattle.fields.specs.declared.FieldType.the-variants.{Char}
+use denote.Ref.{now}
+use borrow.Author.Tests.{not-false}
+use Prim.Native.Nat.{ℕ}
+use mathlib.Core.Path.{_≡_, subst}
+use borrow.Author.Needs.{needs}
+use native.Mathlib.Omega.{arith}
+use Rattle.readings.proofs.read_char.Statement.{statement}
+use Rattle.readings.proofs.read_char.Tie as tie
+
+leading-text-requires : tie.Need-leading-text-requires
+leading-text-requires c κs = search needs
+
+ends-at-requires : tie.Need-ends-at-requires
+ends-at-requires c κs = search needs
+
+misses-requires : tie.Need-misses-requires
+misses-requires c κs = search needs
+
+returns : tie.Need-returns
+returns c = λ e. let z : _≡_ {A = ℕ} 0 1 = cc in absurd (omega arith)
+
+reads-requires : tie.Need-reads-requires
+reads-requires c κs = search needs
+
+ended : (c : tie.Else1) → Ends (now (c .before .before .before .before .args .s)) (c .before .before .leading-text .result .len)
+ended c = c .before .ends-at .ensures (not-false _ (c .if1 .left))
+
+returns-2 : tie.Need-returns-2
+returns-2 c =
+    let args = c .before .before .before .before .before .before .args in
+    λ e.
+    empty-read (Char (args .width)) (now (args .s)) (c .reads .result)
+    (subst (λ (k : ℕ). Ends (now (args .s)) k) (c .before .if2 .taken) (ended (c .before .before))) (c .reads .ensures .1) (c .reads .ensures .2)
+
+reads-requires-2 : tie.Need-reads-requires-2
+reads-requires-2 c κs = search needs
+
+returns-3 : tie.Need-returns-3
+returns-3 c =
+    let p = c .before .before .before .before .before in
+    let args = p .before .before .args in
+    λ e.
+    char-read (now (args .s)) (p .leading-text .result) (p .leading-text .ensures) (ended (c .before .before .before)) (args .width) (c .reads2 .result)
+    (c .reads2 .ensures .1) (c .reads2 .ensures .2) (c .before .if3 .taken)
+
+misses-requires-2 : tie.Need-misses-requires-2
+misses-requires-2 c κs = search needs
+
+returns-4 : tie.Need-returns-4
+returns-4 c = λ e. let z : _≡_ {A = ℕ} 0 1 = cc in absurd (omega arith)
+
+pub read-char-spec : {M : Type 1} → statement M
+read-char-spec =
+    tie.close
+    (tie.spec
+    leading-text-requires
+    ends-at-requires
+    misses-requires
+    returns
+    reads-requires
+    returns-2
+    reads-requires-2
+    returns-3
+    misses-requires-2
+    returns-4)

@@ -1,0 +1,57 @@
+-- `readings::read_date_time` meets its contract: the field up to the first comma fits.
+-- Assumes nothing.
+use Rattle.readings.proofs.Ends.{field-read}
+use Rattle.readings.specs.Readings.{Says}
+use Rattle.fields.specs.declared.FieldType.the-variants.{DateTime}
+use Rattle.lists.proofs.First.{first-le}
+use Rattle.lists.specs.First.{isByte}
+use denote.Ref.{now}
+use lib.Seq.{length-take-le}
+use lib.ListN.{length}
+use Prim.Native.Nat.{ℕ, _≤_}
+use mathlib.Core.Path.{_≡_, sym, _∙_}
+use borrow.Author.Needs.{needs}
+use native.Mathlib.Omega.{arith}
+use Rattle.readings.proofs.read_date_time.Statement.{statement}
+use Rattle.readings.proofs.read_date_time.Tie as tie
+
+find-requires : tie.Need-find-requires
+find-requires c κs = search needs
+
+inside : (c : tie.After-find) → c .find .result ≤ length (now (c .before .before .before .args .s))
+inside c = omega (arith, first-le (isByte 44) (now (c .before .before .before .args .s)), c .find .ensures)
+
+slice-aggregate-fits : tie.Need-slice-aggregate-fits
+slice-aggregate-fits c = sym (length-take-le (c .before .find .result) (now (c .before .before .before .before .args .s)) (inside (c .before)))
+
+fits-requires : tie.Need-fits-requires
+fits-requires c κs = search needs
+
+reads-requires : tie.Need-reads-requires
+reads-requires c κs = search needs
+
+returns : tie.Need-returns
+unfolding Says
+returns c =
+    let p = c .before .before .before .before in
+    λ e.
+    field-read DateTime (now (p .before .before .before .args .s)) (c .reads .result) (p .find .result) 0 (p .find .ensures)
+    (sym (c .before .before .fits2 .ensures) ∙ c .before .if1 .taken) tt (c .reads .ensures .1) (c .reads .ensures .2)
+
+misses-requires : tie.Need-misses-requires
+misses-requires c κs = search needs
+
+returns-2 : tie.Need-returns-2
+returns-2 c = λ e. let z : _≡_ {A = ℕ} 0 1 = cc in absurd (omega arith)
+
+pub read-date-time-spec : {M : Type 1} → statement M
+read-date-time-spec =
+    tie.close
+    (tie.spec
+    find-requires
+    slice-aggregate-fits
+    fits-requires
+    reads-requires
+    returns
+    misses-requires
+    returns-2)

@@ -1,0 +1,87 @@
+-- `readings::read_field` meets its contract: each arm reads the type that the code stands for.
+-- Assumes nothing.
+use Rattle.field_types.specs.Codes.{typeOfCode}
+use borrow.Author.Tests.{ne-eqb}
+use Prim.Native.Nat.{_/_}
+use borrow.Author.Needs.{needs}
+use Rattle.readings.proofs.read_field.Statement.{statement}
+use Rattle.readings.proofs.read_field.Tie as tie
+
+read-digits-requires : tie.Need-read-digits-requires
+read-digits-requires c κs = search needs
+
+read-number-requires : tie.Need-read-number-requires
+read-number-requires c κs = search needs
+
+read-date-requires : tie.Need-read-date-requires
+read-date-requires c κs = search needs
+
+read-date-time-requires : tie.Need-read-date-time-requires
+read-date-time-requires c κs = search needs
+
+read-char-requires : tie.Need-read-char-requires
+read-char-requires c κs = search needs
+
+read-varchar-requires : tie.Need-read-varchar-requires
+read-varchar-requires c κs = search needs
+
+read-id-requires : tie.Need-read-id-requires
+read-id-requires c κs = search needs
+
+returns : tie.Need-returns
+unfolding typeOfCode
+returns c = λ e. rw (c .before .match .keys1) (c .read-digits .ensures e)
+
+returns-2 : tie.Need-returns-2
+unfolding typeOfCode
+returns-2 c = λ e. rw (c .before .match .keys2) (c .read-number .ensures e)
+
+returns-3 : tie.Need-returns-3
+unfolding typeOfCode
+returns-3 c = λ e. rw (c .before .match .keys3) (c .read-date .ensures e)
+
+returns-4 : tie.Need-returns-4
+unfolding typeOfCode
+returns-4 c = λ e. rw (c .before .match .keys4) (c .read-date-time .ensures e)
+
+returns-5 : tie.Need-returns-5
+unfolding typeOfCode
+returns-5 c = λ e. rw (c .before .match .keys5) (c .read-char .ensures e)
+
+returns-6 : tie.Need-returns-6
+unfolding typeOfCode
+returns-6 c = λ e. rw (c .before .match .keys6) (c .read-varchar .ensures e)
+
+returns-7 : tie.Need-returns-7
+unfolding typeOfCode
+returns-7 c =
+    λ e.
+    let kind = c .before .before .before .before .args .code / 65536 in
+    let no = c .before .match .rest in
+    rw (
+      ne-eqb kind 1 (no .0 .0 .0 .0 .0 .1),
+      ne-eqb kind 2 (no .0 .0 .0 .0 .1),
+      ne-eqb kind 3 (no .0 .0 .0 .1),
+      ne-eqb kind 4 (no .0 .0 .1),
+      ne-eqb kind 5 (no .0 .1),
+      ne-eqb kind 6 (no .1),
+    ) (c .read-id .ensures e)
+
+pub read-field-spec : {M : Type 1} → statement M
+read-field-spec =
+    tie.close
+    (tie.spec
+    read-digits-requires
+    read-number-requires
+    read-date-requires
+    read-date-time-requires
+    read-char-requires
+    read-varchar-requires
+    read-id-requires
+    returns
+    returns-2
+    returns-3
+    returns-4
+    returns-5
+    returns-6
+    returns-7)

@@ -1,0 +1,76 @@
+-- `readings::read_varchar` meets its contract: the bytes at the start end the field, or else the field goes to the first comma and says no number.
+-- Assumes nothing.
+use Rattle.readings.proofs.Texts.{varchar-read, long-read}
+use denote.Ref.{now}
+use Prim.Native.Nat.{ℕ}
+use mathlib.Core.Path.{_≡_}
+use borrow.Author.Needs.{needs}
+use native.Mathlib.Omega.{arith}
+use Rattle.readings.proofs.read_varchar.Statement.{statement}
+use Rattle.readings.proofs.read_varchar.Tie as tie
+
+leading-text-requires : tie.Need-leading-text-requires
+leading-text-requires c κs = search needs
+
+ends-at-requires : tie.Need-ends-at-requires
+ends-at-requires c κs = search needs
+
+reads-requires : tie.Need-reads-requires
+reads-requires c κs = search needs
+
+returns : tie.Need-returns
+returns c =
+    let p = c .before .before .before .before in
+    let args = p .before .before .args in
+    λ e.
+    varchar-read (now (args .s)) (p .leading-text .result) (p .leading-text .ensures) (c .before .before .before .ends-at .ensures (c .before .before .if1 .taken)) (args .width) (c .reads .result)
+    (c .reads .ensures .1) (c .reads .ensures .2) (c .before .if2 .taken)
+
+misses-requires : tie.Need-misses-requires
+misses-requires c κs = search needs
+
+returns-2 : tie.Need-returns-2
+returns-2 c = λ e. let z : _≡_ {A = ℕ} 0 1 = cc in absurd (omega arith)
+
+misses-requires-2 : tie.Need-misses-requires-2
+misses-requires-2 c κs = search needs
+
+returns-3 : tie.Need-returns-3
+returns-3 c = λ e. let z : _≡_ {A = ℕ} 0 1 = cc in absurd (omega arith)
+
+find-requires : tie.Need-find-requires
+find-requires c κs = search needs
+
+reads-requires-2 : tie.Need-reads-requires-2
+reads-requires-2 c κs = search needs
+
+returns-4 : tie.Need-returns-4
+returns-4 c =
+    let args = c .before .before .before .before .before .before .before .before .args in
+    λ e.
+    long-read (now (args .s)) (c .before .before .find .result) (args .width) (c .reads2 .result) (c .before .before .find .ensures) (c .before .if4 .taken) (omega arith)
+    (c .reads2 .ensures .1)
+
+misses-requires-3 : tie.Need-misses-requires-3
+misses-requires-3 c κs = search needs
+
+returns-5 : tie.Need-returns-5
+returns-5 c = λ e. let z : _≡_ {A = ℕ} 0 1 = cc in absurd (omega arith)
+
+pub read-varchar-spec : {M : Type 1} → statement M
+read-varchar-spec =
+    tie.close
+    (tie.spec
+    leading-text-requires
+    ends-at-requires
+    reads-requires
+    returns
+    misses-requires
+    returns-2
+    misses-requires-2
+    returns-3
+    find-requires
+    reads-requires-2
+    returns-4
+    misses-requires-3
+    returns-5)
