@@ -8,8 +8,8 @@ ghost use Rattle.lists.specs.Below.{someBelow};
 ghost use Rattle.text.specs.Text.{linesOf, part, Placed};
 ghost use Rattle.format.specs.Format.{isPrintable, unformatted, firstUnformatted, misplaced, firstMisplaced};
 
-// Whether a byte of s is not 32 to 126.
-pub fn has_unprintable(s: &[u8]) -> bool
+// Whether a byte of s is not 32 to 126, one byte after the other.
+fn has_unprintable_byte(s: &[u8]) -> bool
     ensures { λ r. ⌜ r ≡ someBelow (λ i. not (isPrintable (getD (now (s .entry)) i 0))) (length (now (s .entry))) ⌝ }
 {
     let mut i: usize = 0;
@@ -24,6 +24,44 @@ pub fn has_unprintable(s: &[u8]) -> bool
         i += 1;
     }
     false
+}
+
+// Whether a byte of a block of 32 is not 32 to 126. There is no early exit, so that many bytes are compared at once.
+fn block_has_unprintable(s: &[u8]) -> bool
+    requires { ⌜ length (now s) ≡ 32 ⌝ }
+    ensures { λ r. ⌜ r ≡ someBelow (λ i. not (isPrintable (getD (now (s .entry)) i 0))) 32 ⌝ }
+{
+    let mut found = false;
+    let mut i: usize = 0;
+    while i < 32 {
+        let b = s[i];
+        if b < 32 {
+            found = true;
+        }
+        if 126 < b {
+            found = true;
+        }
+        i += 1;
+    }
+    found
+}
+
+// Whether a byte of s is not 32 to 126: block by block, and last the block of the last 32 bytes, which may overlap the one before.
+pub fn has_unprintable(s: &[u8]) -> bool
+    ensures { λ r. ⌜ r ≡ someBelow (λ i. not (isPrintable (getD (now (s .entry)) i 0))) (length (now (s .entry))) ⌝ }
+{
+    let n = s.len();
+    if n < 32 {
+        return has_unprintable_byte(s);
+    }
+    let mut i: usize = 0;
+    while i < n - 32 {
+        if block_has_unprintable(&s[i..i + 32]) {
+            return true;
+        }
+        i += 32;
+    }
+    block_has_unprintable(&s[n - 32..])
 }
 
 fn is_unformatted(file: &[u8], a: usize, e: usize) -> bool

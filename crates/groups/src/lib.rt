@@ -33,7 +33,7 @@ pub fn parent_places(types: &[u64], out: &mut [u64])
 }
 
 // The value of a record whose type is one of low to high, and 0 for another.
-fn chosen(record_type: u64, value: u64, low: u64, high: u64) -> u64
+pub fn chosen(record_type: u64, value: u64, low: u64, high: u64) -> u64
     ensures { λ r. ⌜ r ≡ cond (leb low record_type && leb record_type high) value 0 ⌝ }
 {
     if record_type < low {

@@ -5,7 +5,7 @@ ghost use Prim.Native.Nat.{ℕ, _-_, _≤_, _<_};
 ghost use lib.Dec.{eqb, ltb};
 ghost use lib.ListN.{length, getD};
 ghost use Rattle.lists.specs.Below.{firstBelow};
-ghost use Rattle.groups.specs.Groups.{at};
+ghost use Rattle.groups.specs.Groups.{at, picked};
 ghost use Rattle.identity.specs.Identity.{repeats, firstRepeated, firstUnlike};
 
 // Whether a record before a later one has the same ID.
@@ -148,6 +148,28 @@ pub fn first_unlike(places: &[u64], own: &[u64], theirs: &[u64]) -> usize
     let mut i: usize = 0;
     while i < places.len() {
         if is_unlike(places[i], own[i], theirs) {
+            return i;
+        }
+        i += 1;
+    }
+    i
+}
+
+// What first_unlike says of the records of the types low to high, each compared with the record that it hangs under.
+pub fn first_unlike_child(
+    types: &[u64],
+    parents: &[u64],
+    low: u64,
+    high: u64,
+    values: &[u64],
+) -> usize
+    requires { ⌜ (length (now parents) ≡ length (now types)) × (length (now values) ≡ length (now types)) × ((i : ℕ) → i < length (now types) → at (now parents) i ≤ length (now types)) ⌝ }
+    ensures { λ r. ⌜ r ≡ firstUnlike (picked (now (types .entry)) (now (parents .entry)) low high) (now (values .entry)) (now (values .entry)) ⌝ }
+{
+    let mut i: usize = 0;
+    while i < types.len() {
+        let place = groups::chosen(types[i], parents[i], low, high);
+        if is_unlike(place, values[i], values) {
             return i;
         }
         i += 1;

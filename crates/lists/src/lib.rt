@@ -1,5 +1,8 @@
 // Definitions on lists that contracts cite, with their laws, and the search that many crates use.
 ghost use mathlib.Core.Path.{_≡_};
+ghost use mathlib.Core.Bool.{false};
+ghost use Prim.Native.Nat.{ℕ, _<_};
+ghost use lib.ListN.{length, getD};
 ghost use Rattle.lists.specs.First.{firstWhere, isByte};
 ghost use Rattle.lists.specs.Bytes.{sameBytes};
 
@@ -17,18 +20,34 @@ pub fn find(s: &[u8], b: u8) -> usize
     i
 }
 
-// The place of the first x of s, or the length where there is none.
-pub fn find_number(s: &[u64], x: u64) -> usize
-    ensures { λ r. ⌜ r ≡ firstWhere (isByte x) (now (s .entry)) ⌝ }
+// Whether a byte of a block of 32 is b. There is no early exit, so that many bytes are compared at once.
+fn block_has(s: &[u8], b: u8) -> bool
+    requires { ⌜ length (now s) ≡ 32 ⌝ }
+    ensures { λ r. ⌜ (r ≡ false → (k : ℕ) → k < 32 → isByte b (getD (now (s .entry)) k 0) ≡ false) ⌝ }
 {
+    let mut found = false;
     let mut i: usize = 0;
-    while i < s.len() {
-        if s[i] == x {
-            return i;
+    while i < 32 {
+        if s[i] == b {
+            found = true;
         }
         i += 1;
     }
-    i
+    found
+}
+
+// What find says, for a byte that is likely to stand far from the start: 32 bytes are passed over at a time.
+pub fn find_far(s: &[u8], b: u8) -> usize
+    ensures { λ r. ⌜ r ≡ firstWhere (isByte b) (now (s .entry)) ⌝ }
+{
+    let mut i: usize = 0;
+    while 32 <= s.len() - i {
+        if block_has(&s[i..i + 32], b) {
+            return i + find(&s[i..], b);
+        }
+        i += 32;
+    }
+    i + find(&s[i..], b)
 }
 
 pub fn wide(x: u8) -> u64

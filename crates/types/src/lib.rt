@@ -2,19 +2,6 @@
 ghost use mathlib.Core.Path.{_≡_};
 ghost use Rattle.types.specs.Types.{typeNamed, mayFollow, parentType};
 
-// The two letters of each type, as the number 256 * first + second.
-const LETTERS: [u64; 9] = [
-    17992,
-    21320,
-    21576,
-    17493,
-    17476,
-    17485,
-    17224,
-    20291,
-    18004,
-];
-
 // Whether the type of the column may follow the type of the row.
 const FOLLOWS: [[bool; 9]; 9] = [
     // after FH
@@ -47,15 +34,25 @@ const FOLLOWS: [[bool; 9]; 9] = [
     ],
 ];
 
-// The type that two letters name, or 9.
+// The type that two letters name, or 9. The letters are read as the number 256 * first + second.
 pub fn type_named(s: &[u8]) -> u64
     ensures { λ r. ⌜ r ≡ typeNamed (now (s .entry)) ⌝ }
 {
     if s.len() != 2 {
         return 9;
     }
-    let name = lists::wide(s[0]) * 256 + lists::wide(s[1]);
-    lists::find_number(&LETTERS, name) as u64
+    match lists::wide(s[0]) * 256 + lists::wide(s[1]) {
+        17992 => 0,
+        21320 => 1,
+        21576 => 2,
+        17493 => 3,
+        17476 => 4,
+        17485 => 5,
+        17224 => 6,
+        20291 => 7,
+        18004 => 8,
+        _ => 9,
+    }
 }
 
 // Whether a record of the present type may follow one of the previous type.
@@ -72,13 +69,19 @@ pub fn may_follow(previous: u64, present: u64) -> bool
 }
 
 // The type of the record that a record of a type hangs under; FH, which has none, has 9.
-const PARENTS: [u64; 9] = [9, 0, 1, 2, 2, 2, 2, 1, 0];
-
 pub fn parent_type(record_type: u64) -> u64
     ensures { λ r. ⌜ r ≡ parentType record_type ⌝ }
 {
-    if 9 <= record_type {
-        return 9;
+    match record_type {
+        0 => 9,
+        1 => 0,
+        2 => 1,
+        3 => 2,
+        4 => 2,
+        5 => 2,
+        6 => 2,
+        7 => 1,
+        8 => 0,
+        _ => 9,
     }
-    PARENTS[record_type as usize]
 }

@@ -1,47 +1,60 @@
--- `has_unprintable` meets its contract. The loop's invariant: the search for an unprintable byte has passed i bytes.
+-- `has_unprintable` meets its contract. The loop's invariant: each byte passed is printable.
 -- Assumes nothing.
-use Rattle.format.proofs.Some.{some-here, some-end}
-use Rattle.format.specs.Format.{isPrintable}
-use Rattle.lists.proofs.Below.{Searched, searched-none, searched-more}
-use lib.ListN.{length, getD}
+use Rattle.text.specs.Text.{part}
+use native.Mathlib.Nat.{le-refl}
+use Prim.Native.Nat.{ℕ, _+_, _-_, _≤_, _<_}
+use mathlib.Core.Path.{_≡_, sym, _∙_}
+use mathlib.Core.Bool.{Bool, false, not}
 use denote.Ref.{now}
-use borrow.Author.Tests.{le-leb, lt-leb}
-use mathlib.Core.Bool.{Bool, not, and-false}
-use mathlib.Core.Path.{_≡_, sym}
-use mathlib.Core.List.{List}
-use Prim.Native.Nat.{ℕ, _-_, _≤_}
+use lib.ListN.{length}
+use Rattle.lists.proofs.Parts.{part-length, part-at}
+use Rattle.format.specs.Format.{isPrintable}
+use Rattle.format.proofs.Blocks.{holdsAt, block-some, block-passed, block-last}
 use borrow.Author.Needs.{needs}
 use native.Mathlib.Omega.{arith}
 use Rattle.format.proofs.has_unprintable.Statement.{statement}
 use Rattle.format.proofs.has_unprintable.Tie as tie
 
--- the byte at place i is not 32 to 126
-abbrev unprintable : List ℕ → ℕ → Bool
-unprintable s i = not (isPrintable (getD s i 0))
+abbrev unprintable : ℕ → Bool
+unprintable b = not (isPrintable b)
 
 abbrev Inv-loop : tie.InvT-loop
-Inv-loop s i₀ i = (i ≤ length s) × Searched (unprintable s) (length s) i
+Inv-loop s n i₀ i = (i ≤ length s) × ((k : ℕ) → k < i → holdsAt unprintable s k ≡ false)
 
 abbrev μ-loop : tie.MeasureT-loop
-μ-loop s i₀ i = length s - i
+μ-loop s n i₀ i = length s - i
 
-loop-holds : tie.Need-loop-holds Inv-loop μ-loop
-loop-holds c = (omega arith, searched-none (unprintable (now (c .args .s))) (length (now (c .args .s))))
-
-shared-slice-read-b : tie.Need-shared-slice-read-b Inv-loop μ-loop
-shared-slice-read-b c = search needs
+has-unprintable-byte-requires : tie.Need-has-unprintable-byte-requires Inv-loop μ-loop
+has-unprintable-byte-requires c κs = search needs
 
 returns : tie.Need-returns Inv-loop μ-loop
-returns c =
-    let p = c .before .before .before in
-    let s = now (p .before .args .s) in
-    sym (some-here (unprintable s) (length s) (p .loop .i) (p .loop .inv .1) (omega arith) (simp (lt-leb _ _ (c .if1 .taken))))
+returns c = search needs
+
+loop-holds : tie.Need-loop-holds Inv-loop μ-loop
+loop-holds c = (omega arith, λ k h. absurd (omega arith))
+
+add-block-has-unprintable : tie.Need-add-block-has-unprintable Inv-loop μ-loop
+add-block-has-unprintable c = search needs
+
+sub-block-has-unprintable : tie.Need-sub-block-has-unprintable Inv-loop μ-loop
+sub-block-has-unprintable c = search needs
+
+part-block-has-unprintable-start : tie.Need-part-block-has-unprintable-start Inv-loop μ-loop
+part-block-has-unprintable-start c = search needs
+
+part-block-has-unprintable-end : tie.Need-part-block-has-unprintable-end Inv-loop μ-loop
+part-block-has-unprintable-end c = search needs
+
+block-has-unprintable-requires : tie.Need-block-has-unprintable-requires Inv-loop μ-loop
+block-has-unprintable-requires c κs =
+    let i = c .before .before .loop .i in
+    omega (arith, part-length (c .before .before .before .before .before .args .s .now) i (i + 32) (omega arith))
 
 returns-2 : tie.Need-returns-2 Inv-loop μ-loop
 returns-2 c =
-    let p = c .before .before .before .before in
-    let s = now (p .before .args .s) in
-    sym (some-here (unprintable s) (length s) (p .loop .i) (p .loop .inv .1) (omega arith) (simp (lt-leb _ _ (c .if2 .taken), and-false)))
+    let s = now (c .before .before .before .before .before .before .before .args .s) in
+    let i = c .before .before .before .before .loop .i in
+    sym (block-some unprintable s (part s i (i + 32)) i 32 (λ k h. part-at s i (i + 32) k 0 (omega arith)) (length s) (omega arith) (sym (c .before .block-has-unprintable .ensures) ∙ c .if2 .taken))
 
 add-i : tie.Need-add-i Inv-loop μ-loop
 add-i c = search needs
@@ -51,15 +64,32 @@ loop-less c = search needs
 
 loop-again : tie.Need-loop-again Inv-loop μ-loop
 loop-again c =
-    let p = c .before .before .before .before in
-    let s = now (p .before .args .s) in
-    (omega arith, searched-more (unprintable s) (length s) (p .loop .i) (omega arith) (p .loop .inv .1) (simp (le-leb _ _ (c .before .if1 .left), le-leb _ _ (c .if2 .left))))
+    let s = now (c .before .before .before .before .before .before .before .args .s) in
+    let i = c .before .before .before .before .loop .i in (
+      omega arith,
+      block-passed unprintable s (part s i (i + 32)) i 32 (λ k h. part-at s i (i + 32) k 0 (omega arith)) i (le-refl i) (c .before .before .before .before .loop .inv .1) (sym (c .before .block-has-unprintable .ensures) ∙ c .if2 .left),
+    )
+
+sub-block-has-unprintable-2 : tie.Need-sub-block-has-unprintable-2 Inv-loop μ-loop
+sub-block-has-unprintable-2 c = search needs
+
+part-block-has-unprintable-start-2 : tie.Need-part-block-has-unprintable-start-2 Inv-loop μ-loop
+part-block-has-unprintable-start-2 c = search needs
+
+part-block-has-unprintable-end-2 : tie.Need-part-block-has-unprintable-end-2 Inv-loop μ-loop
+part-block-has-unprintable-end-2 c = search needs
+
+block-has-unprintable-requires-2 : tie.Need-block-has-unprintable-requires-2 Inv-loop μ-loop
+block-has-unprintable-requires-2 c κs =
+    let s = c .before .before .before .before .before .args .s .now in
+    omega (arith, part-length s (length s - 32) (length s) (omega arith))
 
 returns-3 : tie.Need-returns-3 Inv-loop μ-loop
 returns-3 c =
-    let p = c .before in
-    let s = now (p .before .args .s) in
-    sym (some-end (unprintable s) (length s) (p .loop .i) (p .loop .inv .1) (omega arith))
+    let s = now (c .before .before .before .before .before .before .args .s) in
+    let q = length s - 32 in
+    c .block-has-unprintable2 .ensures
+    ∙ block-last unprintable s (part s q (length s)) q 32 (λ k h. part-at s q (length s) k 0 (omega arith)) (length s) (c .before .before .before .loop .i) (omega arith) (omega arith) (c .before .before .before .loop .inv .1)
 
 pub has-unprintable-spec : {M : Type 1} → statement M
 has-unprintable-spec =
@@ -67,11 +97,20 @@ has-unprintable-spec =
     (tie.spec
     Inv-loop
     μ-loop
-    loop-holds
-    shared-slice-read-b
+    has-unprintable-byte-requires
     returns
+    loop-holds
+    add-block-has-unprintable
+    sub-block-has-unprintable
+    part-block-has-unprintable-start
+    part-block-has-unprintable-end
+    block-has-unprintable-requires
     returns-2
     add-i
     loop-less
     loop-again
+    sub-block-has-unprintable-2
+    part-block-has-unprintable-start-2
+    part-block-has-unprintable-end-2
+    block-has-unprintable-requires-2
     returns-3)
