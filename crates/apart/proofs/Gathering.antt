@@ -1,5 +1,6 @@
 -- Spans gathered from the places at which a test holds, and what it says of periods of sites that their spans are apart.
 --     gathering-none, gathering-more, gathering-skip    the invariant of a loop that gathers spans: at the start; one more; the same
+--     gathering-kept                                    what is written past those gathered does not matter
 --     gathering-same                                    what holds of lists and a count holds of those equal to them
 --     days-apart                                        where no two spans gathered meet, no day of a site is in two of the periods
 -- Assumes nothing.
@@ -34,14 +35,18 @@ module _ (f : ℕ → Bool) where
     gathered-skip list n none before =
         below-more (λ i. f i ≡ true → getD list (countBelow f i) 0 ≡ value i) n before (λ e. absurd (true≢false (sym e ∙ none)))
 
+    gathered-kept : (list : List ℕ) (n count v : ℕ) → count ≡ countBelow f n → Gathered f value list n → Gathered f value (set list count v) n
+    unfolding Gathered
+    gathered-kept list n count v counted before i h e =
+        let less = count-less i n h e in
+        getD-set-other list count (countBelow f i) v 0 (λ same. omega (arith, less, same, counted)) ∙ before i h e
+
     gathered-more : (list : List ℕ) (n count v : ℕ) → count ≡ countBelow f n → count < length list → v ≡ value n → Gathered f value list n
         → Gathered f value (set list count v) (n + 1)
     unfolding Gathered
     gathered-more list n count v counted room own before =
         below-more (λ i. f i ≡ true → getD (set list count v) (countBelow f i) 0 ≡ value i) n
-        (λ i h e.
-        let less = count-less i n h e in
-        getD-set-other list count (countBelow f i) v 0 (λ same. omega (arith, less, same, counted)) ∙ before i h e)
+        (gathered-kept list n count v counted before)
         (λ e. subst (λ (k : ℕ). getD (set list count v) k 0 ≡ value n) counted (getD-set-same list count v 0 room ∙ own))
 
   module _ (first last : ℕ → ℕ) where
@@ -67,6 +72,15 @@ module _ (f : ℕ → Bool) where
             counted = before .counted ∙ sym (count-kept f n none);
             begun = gathered-skip first firsts n none (before .begun);
             over = gathered-skip last lasts n none (before .over);
+          }
+
+      pub gathering-kept : (v w : ℕ) → Gathering f first last (set firsts count v) (set lasts count w) n count
+      gathering-kept v w =
+          record {
+            few = before .few;
+            counted = before .counted;
+            begun = gathered-kept first firsts n count v (before .counted) (before .begun);
+            over = gathered-kept last lasts n count w (before .counted) (before .over);
           }
 
       pub gathering-more : (v w : ℕ) → f n ≡ true → count < length firsts → count < length lasts → v ≡ first n → w ≡ last n

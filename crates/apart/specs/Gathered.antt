@@ -3,13 +3,17 @@
 use mathlib.Core.Path.{_≡_}
 use mathlib.Core.List.{List}
 use mathlib.Core.Bool.{Bool, true}
-use Prim.Native.Nat.{ℕ, _+_, _*_, _%_, _≤_, _<_, min}
+use Prim.Native.Nat.{ℕ, _+_, _*_, _/_, _%_, _≤_, _<_, min}
 use lib.ListN.{getD}
 use Rattle.lists.specs.Below.{countBelow}
 
+-- another number for a site, below 2^44: the lower 22 bits, and with them the upper ones, come first. Sites below 2^44 have a number of their own
+unfoldable pub spread : ℕ → ℕ
+spread site = (site % 4194304 + site / 4194304 * 1296111) % 4194304 * 4194304 + site / 4194304 % 4194304
+
 -- a day of a site as one number, which does not fall where the day rises. Sites below 2^44 and days below 2^16 have a number of their own
 unfoldable pub dayNumber : ℕ → ℕ → ℕ
-dayNumber site day = site % 17592186044416 * 65536 + min day 65535
+dayNumber site day = spread site * 65536 + min day 65535
 
 -- the values of the places below n at which f holds stand in a list, in their order
 unfoldable pub Gathered : (ℕ → Bool) → (ℕ → ℕ) → List ℕ → ℕ → Type 0

@@ -3,6 +3,7 @@
 --     headed-none, headed-more    the heads, at the start and with one place more
 --     linked-none, linked-more    the links
 --     led-more                    the leaders
+--     headed-new, distinct-more   the heads, and that no value repeats, with a place more that leads itself
 --     Walked                      the invariant of a walk along a chain
 --     walk-start, walk-more, walk-here, walk-end    it holds at the start; one step more; the value is here; the chain is at its end
 -- Assumes nothing.
@@ -19,7 +20,7 @@ use lib.ListN.{length, getD, set, replicate}
 use lib.Seq.{getD-set-same, getD-set-other, set-getD}
 use Rattle.lists.specs.Below.{firstBelow}
 use Rattle.lists.proofs.Below.{first-at-most, first-holds, first-least, none-below, none-is-end}
-use Rattle.buckets.specs.Buckets.{firstPlace, Leads, Led, bucketOf, bucketAt, Latest, Headed, Linked}
+use Rattle.buckets.specs.Buckets.{firstPlace, Leads, Led, Distinct, bucketOf, bucketAt, Latest, Headed, Linked}
 
 -- ---- the first place
 never : {A : Type 0} → true ≡ false → A
@@ -99,6 +100,10 @@ module _ (values : List ℕ) where
               subst (λ (xs : List ℕ). Latest values a (i + 1) (getD xs a 0)) (sym (set-getD heads b 0))
               (latest-kept a i (getD heads a 0) (H a) (λ m _. eqb-false leader i q (d ∙ m)))
 
+      pub headed-new : leader ≡ i → Headed values (i + 1) (set heads b (i + 1))
+      headed-new itself =
+          subst (λ (k : ℕ). Headed values (i + 1) (set heads b k)) (ap (λ (t : Bool). cond t (i + 1) (getD heads b 0)) (eq-eqb leader i itself)) headed-more
+
     pub linked-more : (links : List ℕ) → i < length links → Linked values i links → Linked values (i + 1) (set links i (getD heads b 0))
     linked-more links l L q h = go (decLt q i)
       where
@@ -121,6 +126,16 @@ module _ (values : List ℕ) where
           let z : q ≡ i = omega (arith, m) in
           subst (λ (p : ℕ). getD (set leaders i leader) p 0 ≡ firstPlace values n (getD values p 0)) (sym z)
           (getD-set-same leaders i leader 0 l ∙ d ∙ sym (first-within (here (getD values i 0)) n i h (eq-eqb (getD values i 0) (getD values i 0) refl)))
+
+  pub distinct-more : (i : ℕ) → Leads values i → Distinct values i → Distinct values (i + 1)
+  distinct-more i leads distinct a b less h same = go (decLt b i)
+    where
+      go : Dec (b < i) → ⊥
+      go (yes m) = distinct a b less m same
+      go (no m) =
+          let z : b ≡ i = omega (arith, m) in
+          let also : getD values a 0 ≡ getD values i 0 = same ∙ ap (λ (k : ℕ). getD values k 0) z in
+          never (sym (eq-eqb _ _ also) ∙ none-below (here (getD values i 0)) i leads a (omega arith))
 
 -- ---- a walk
 -- a walk for x has come to k, and none of the places from there to m that lead has x

@@ -20,6 +20,10 @@ Leads values p = firstPlace values p (getD values p 0) ≡ p
 abbrev pub Led : List ℕ → ℕ → List ℕ → ℕ → Type 0
 Led values n leaders m = (i : ℕ) → i < m → getD leaders i 0 ≡ firstPlace values n (getD values i 0)
 
+-- no two of the first n places have the same value
+abbrev pub Distinct : List ℕ → ℕ → Type 0
+Distinct values n = (i j : ℕ) → i < j → j < n → getD values i 0 ≡ getD values j 0 → ⊥
+
 unfoldable pub bucketOf : ℕ → ℕ
 bucketOf x = (x % 4294967296 + x / 4294967296) * 2135587861 / 1048576 % 8192
 

@@ -4,7 +4,7 @@ ghost use mathlib.Core.Bool.{true, cond};
 ghost use Prim.Native.Nat.{ℕ, _+_, _≤_, _<_};
 ghost use lib.Dec.{eqb};
 ghost use lib.ListN.{length, getD};
-ghost use Rattle.buckets.specs.Buckets.{firstPlace, Led, bucketOf, Latest, Linked, Indexed};
+ghost use Rattle.buckets.specs.Buckets.{firstPlace, Led, Distinct, bucketOf, Latest, Linked, Indexed};
 
 fn bucket(value: u64) -> usize
     ensures { λ r. ⌜ (r ≡ bucketOf value) × (r < 8192) ⌝ }
@@ -45,13 +45,14 @@ fn held_after(leader: usize, i: usize, latest: usize) -> usize
     latest
 }
 
-// Puts the first n places into their buckets, and the leader of each into `leaders`. False where a chain grows past 32 steps.
+// Puts the first n places into their buckets, and the leader of each into `leaders`. False where a chain grows past `limit` steps.
 pub fn index(
     values: &[u64],
     n: usize,
     heads: &mut [usize],
     links: &mut [usize],
     leaders: &mut [usize],
+    limit: usize,
 ) -> bool
     requires { ⌜ (n ≤ length (now values)) × (n ≤ length (now links)) × (n ≤ length (now leaders)) × (length (now heads) ≡ 8192) ⌝ }
     requires { ⌜ ((b : ℕ) → getD (now heads) b 0 ≡ 0) ⌝ }
@@ -62,13 +63,34 @@ pub fn index(
         let value = values[i];
         let b = bucket(value);
         let latest = heads[b];
-        let leader = walk(values, links, i, latest, value, 32);
+        let leader = walk(values, links, i, latest, value, limit);
         if i < leader {
             return false;
         }
         heads[b] = held_after(leader, i, latest);
         links[i] = latest;
         leaders[i] = leader;
+        i += 1;
+    }
+    true
+}
+
+// Puts the first n places into their buckets. False where a value repeats, and where a chain grows past 32 steps.
+pub fn index_distinct(values: &[u64], n: usize, heads: &mut [usize], links: &mut [usize]) -> bool
+    requires { ⌜ (n ≤ length (now values)) × (n ≤ length (now links)) × (length (now heads) ≡ 8192) ⌝ }
+    requires { ⌜ ((b : ℕ) → getD (now heads) b 0 ≡ 0) ⌝ }
+    ensures { λ r. ⌜ (r ≡ true → Indexed (now (values .entry)) n (now (heads .exit)) (now (links .exit)) × Distinct (now (values .entry)) n) ⌝ }
+{
+    let mut i: usize = 0;
+    while i < n {
+        let value = values[i];
+        let b = bucket(value);
+        let latest = heads[b];
+        if walk(values, links, i, latest, value, 32) != i {
+            return false;
+        }
+        heads[b] = i + 1;
+        links[i] = latest;
         i += 1;
     }
     true

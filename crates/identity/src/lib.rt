@@ -61,7 +61,7 @@ fn first_by_buckets(ids: &[u64]) -> usize
     let mut heads = [0usize; 8192];
     let mut links = [0usize; 4096];
     let mut leaders = [0usize; 4096];
-    if buckets::index(ids, ids.len(), &mut heads, &mut links, &mut leaders) {
+    if buckets::index(ids, ids.len(), &mut heads, &mut links, &mut leaders, 32) {
         return first_led(&leaders, ids.len());
     }
     ids.len() + 1

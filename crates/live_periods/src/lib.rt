@@ -22,9 +22,9 @@ fn gather(
     let mut i: usize = 0;
     while i < used {
         let e = soundness::entry_in_use(words, amounts, used, i);
+        firsts[count] = apart::day_number(e.site, e.start);
+        lasts[count] = apart::day_number(e.site, e.end);
         if soundness::is_live_period(e) {
-            firsts[count] = apart::day_number(e.site, e.start);
-            lasts[count] = apart::day_number(e.site, e.end);
             count += 1;
         }
         i += 1;
@@ -32,13 +32,20 @@ fn gather(
     count
 }
 
-// Whether live periods of a site are shown to share no day. Where the answer is false, nothing is known.
-pub fn are_apart(words: &[u64], amounts: &[i64], used: usize) -> bool
-    requires { ⌜ (used * 9 ≤ length (now words)) × (used * 2 ≤ length (now amounts)) × (used ≤ 8192) ⌝ }
+// Whether live periods of a site are shown to share no day. Where the answer is false, nothing is known. The four columns are lent to hold the periods and their order.
+pub fn are_apart(
+    words: &[u64],
+    amounts: &[i64],
+    used: usize,
+    firsts: &mut [u64],
+    lasts: &mut [u64],
+    order: &mut [usize],
+    ranks: &mut [usize],
+) -> bool
+    requires { ⌜ (used * 9 ≤ length (now words)) × (used * 2 ≤ length (now amounts)) ⌝ }
+    requires { ⌜ (used ≤ length (now firsts)) × (length (now lasts) ≡ length (now firsts)) × (used ≤ length (now order)) × (used ≤ length (now ranks)) ⌝ }
     ensures { λ r. ⌜ (r ≡ true → LiveApart (entriesOf (now (words .entry)) (now (amounts .entry)) used) used) ⌝ }
 {
-    let mut firsts = [0u64; 8192];
-    let mut lasts = [0u64; 8192];
-    let count = gather(words, amounts, used, &mut firsts, &mut lasts);
-    apart::all_apart(&firsts, &lasts, count)
+    let count = gather(words, amounts, used, firsts, lasts);
+    apart::all_apart(firsts, lasts, count, order, ranks)
 }

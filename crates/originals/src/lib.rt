@@ -49,8 +49,60 @@ fn gather(
     count
 }
 
-// Whether no two original periods among the first n records are shown to share a day of a site. Where the answer is false, nothing is known.
-fn none_shared(
+// Whether no two original periods among the first n records are shown to share a day of a site. Where the answer is false, nothing is known. The four columns are lent to hold the periods and their order.
+fn none_shared_in(
+    types: &[u64],
+    sites: &[u64],
+    starts: &[u64],
+    ends: &[u64],
+    cancels: &[u64],
+    n: usize,
+    firsts: &mut [u64],
+    lasts: &mut [u64],
+    order: &mut [usize],
+    ranks: &mut [usize],
+) -> bool
+    requires { ⌜ (n ≤ length (now types)) × (n ≤ length (now sites)) × (n ≤ length (now starts)) × (n ≤ length (now ends)) × (n ≤ length (now cancels)) ⌝ }
+    requires { ⌜ (n ≤ length (now firsts)) × (length (now lasts) ≡ length (now firsts)) × (n ≤ length (now order)) × (n ≤ length (now ranks)) ⌝ }
+    ensures { λ r. ⌜ (r ≡ true → NoneShared (now (types .entry)) (now (sites .entry)) (now (starts .entry)) (now (ends .entry)) (now (cancels .entry)) n) ⌝ }
+{
+    let count = gather(types, sites, starts, ends, cancels, n, firsts, lasts);
+    apart::all_apart(firsts, lasts, count, order, ranks)
+}
+
+// For up to 1,024 records: larger columns take longer to make than so few to sort.
+fn none_shared_of_few(
+    types: &[u64],
+    sites: &[u64],
+    starts: &[u64],
+    ends: &[u64],
+    cancels: &[u64],
+    n: usize,
+) -> bool
+    requires { ⌜ (n ≤ length (now types)) × (n ≤ length (now sites)) × (n ≤ length (now starts)) × (n ≤ length (now ends)) × (n ≤ length (now cancels)) ⌝ }
+    requires { ⌜ n ≤ 1024 ⌝ }
+    ensures { λ r. ⌜ (r ≡ true → NoneShared (now (types .entry)) (now (sites .entry)) (now (starts .entry)) (now (ends .entry)) (now (cancels .entry)) n) ⌝ }
+{
+    let mut firsts = [0u64; 1024];
+    let mut lasts = [0u64; 1024];
+    let mut order = [0usize; 1024];
+    let mut ranks = [0usize; 1024];
+    none_shared_in(
+        types,
+        sites,
+        starts,
+        ends,
+        cancels,
+        n,
+        &mut firsts,
+        &mut lasts,
+        &mut order,
+        &mut ranks,
+    )
+}
+
+// For up to 4,096 records.
+fn none_shared_of_many(
     types: &[u64],
     sites: &[u64],
     starts: &[u64],
@@ -64,7 +116,9 @@ fn none_shared(
 {
     let mut firsts = [0u64; 4096];
     let mut lasts = [0u64; 4096];
-    let count = gather(
+    let mut order = [0usize; 4096];
+    let mut ranks = [0usize; 4096];
+    none_shared_in(
         types,
         sites,
         starts,
@@ -73,8 +127,27 @@ fn none_shared(
         n,
         &mut firsts,
         &mut lasts,
-    );
-    apart::all_apart(&firsts, &lasts, count)
+        &mut order,
+        &mut ranks,
+    )
+}
+
+fn none_shared(
+    types: &[u64],
+    sites: &[u64],
+    starts: &[u64],
+    ends: &[u64],
+    cancels: &[u64],
+    n: usize,
+) -> bool
+    requires { ⌜ (n ≤ length (now types)) × (n ≤ length (now sites)) × (n ≤ length (now starts)) × (n ≤ length (now ends)) × (n ≤ length (now cancels)) ⌝ }
+    requires { ⌜ n ≤ 4096 ⌝ }
+    ensures { λ r. ⌜ (r ≡ true → NoneShared (now (types .entry)) (now (sites .entry)) (now (starts .entry)) (now (ends .entry)) (now (cancels .entry)) n) ⌝ }
+{
+    if n <= 1024 {
+        return none_shared_of_few(types, sites, starts, ends, cancels, n);
+    }
+    none_shared_of_many(types, sites, starts, ends, cancels, n)
 }
 
 // How many of the first records are shown to have no two original periods that share a day of a site: all, in the usual file of up to 4,096.

@@ -54,7 +54,7 @@ fn by_place(members: &[u64], owners: &[u64], joined: &mut [usize], owned: &mut [
 {
     let mut heads = [0usize; 8192];
     let mut links = [0usize; 4096];
-    if !buckets::index(owners, owners.len(), &mut heads, &mut links, owned) {
+    if !buckets::index(owners, owners.len(), &mut heads, &mut links, owned, 32) {
         return false;
     }
     fill_places(members, owners, &heads, &links, joined);

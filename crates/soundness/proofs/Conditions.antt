@@ -1,89 +1,16 @@
 -- The conditions of soundness one by one: where one fails the whole fails, and where all but the last hold the last decides.
 -- Assumes nothing.
 use mathlib.Core.Path.{_≡_, sym, _∙_}
-use mathlib.Core.Bool.{Bool, true, false, not, _&&_, _||_, and-false, or-true}
+use mathlib.Core.Bool.{Bool, true, false, _&&_, and-false, or-true}
 use mathlib.Core.List.{List}
-use Prim.Native.Nat.{ℕ, _^_, _≤_, _<_}
-use borrow.Author.Tests.{lt-ltb, le-ltb, le-leb, lt-leb, eq-eqb, ne-eqb}
+use Prim.Native.Nat.{ℕ, _≤_, _<_}
+use borrow.Author.Tests.{lt-ltb, le-ltb, eq-eqb, ne-eqb}
 use lib.Dec.{eqb, ltb}
-use lib.IntN.{natAbs, _+ℤ_}
+use lib.IntN.{_+ℤ_}
 use Rattle.calendar.specs.Periods.{sharesDay}
 use Rattle.entries.specs.declared.Entry.{Entry}
-use Rattle.entries.specs.Entries.{entryOf, period, isPeriod}
-use Rattle.soundness.specs.Sound.{digitsFit, within, rangesFit, isZero, daysFit, lacksFit, entryFits, sameSubject, isLivePeriod, clash, isNamed, opposite, cancelsBefore, cancelledBefore, pairs, repeatsKey, clashes, unpaired, isFaulty}
-
-module _ (e : Entry) where
-  -- ---- digits
-  pub charge-too-long : ltb (natAbs (e .charge)) (10 ^ 15) ≡ false → digitsFit e ≡ false
-  unfolding digitsFit
-  charge-too-long long = simp (long, and-false)
-
-  pub digits-by-usage : e .sender < 10 ^ 4 → e .site < 10 ^ 13 → e .id < 10 ^ 15 → e .cancels < 10 ^ 15 → ltb (natAbs (e .charge)) (10 ^ 15) ≡ true
-      → ltb (natAbs (e .usage)) (10 ^ 15) ≡ digitsFit e
-  unfolding digitsFit
-  digits-by-usage sender site id cancels charge = simp (lt-ltb _ _ sender, lt-ltb _ _ site, lt-ltb _ _ id, lt-ltb _ _ cancels, charge)
-
-  -- ---- ranges
-  module _ (commodity : within 1 2 (e .commodity) ≡ true) (kind : within 1 3 (e .kind) ≡ true) (state : e .state ≤ 4) (start : e .start ≤ 36524) (end : e .end ≤ 36524) where
-    pub ranges-of-file : e .kind ≡ 1 → eqb (e .state) 0 ≡ rangesFit e
-    unfolding rangesFit
-    ranges-of-file file = simp (commodity, kind, le-leb _ _ state, le-leb _ _ start, le-leb _ _ end, eq-eqb _ _ file)
-
-    pub ranges-of-record : (e .kind ≡ 1 → ⊥) → not (eqb (e .state) 0) ≡ rangesFit e
-    unfolding rangesFit
-    ranges-of-record other = simp (commodity, kind, le-leb _ _ state, le-leb _ _ start, le-leb _ _ end, ne-eqb _ _ other)
-
-  pub no-commodity : within 1 2 (e .commodity) ≡ false → rangesFit e ≡ false
-  unfolding rangesFit
-  no-commodity out = simp out
-
-  pub no-kind : within 1 3 (e .kind) ≡ false → rangesFit e ≡ false
-  unfolding rangesFit
-  no-kind out = simp (out, and-false)
-
-  -- ---- what a kind lacks
-  abbrev period-lack : Bool
-  period-lack = isPeriod e || (eqb (e .start) 0 && eqb (e .end) 0 && isZero (e .usage))
-
-  abbrev site-fits : Bool
-  site-fits = not (eqb (e .kind) 1) || eqb (e .site) 0
-
-  pub lacks-by-usage : (e .kind ≡ 2 → ⊥) → e .start ≡ 0 → e .end ≡ 0 → isZero (e .usage) ≡ period-lack
-  lacks-by-usage other start end = simp (ne-eqb _ _ other, eq-eqb _ _ start, eq-eqb _ _ end)
-
-  pub period-lacks : period-lack ≡ false → lacksFit e ≡ false
-  unfolding lacksFit
-  period-lacks amiss = simp amiss
-
-  pub site-lack : site-fits ≡ false → lacksFit e ≡ false
-  unfolding lacksFit
-  site-lack amiss = simp (amiss, and-false)
-
-  module _ (days : period-lack ≡ true) (site : site-fits ≡ true) where
-    pub cancels-lack : e .state ≡ 4 → lacksFit e ≡ true
-    unfolding lacksFit
-    cancels-lack cancel = simp (days, site, eq-eqb _ _ cancel)
-
-    pub lacks-by-cancels : (e .state ≡ 4 → ⊥) → eqb (e .cancels) 0 ≡ lacksFit e
-    unfolding lacksFit
-    lacks-by-cancels other = simp (days, site, ne-eqb _ _ other)
-
-  -- ---- the sentences that look at one entry
-  pub digits-amiss : digitsFit e ≡ false → entryFits e ≡ false
-  unfolding entryFits
-  digits-amiss amiss = simp amiss
-
-  pub ranges-amiss : rangesFit e ≡ false → entryFits e ≡ false
-  unfolding entryFits
-  ranges-amiss amiss = simp (amiss, and-false)
-
-  pub days-amiss : e .end < e .start → entryFits e ≡ false
-  unfolding entryFits daysFit
-  days-amiss amiss = simp (lt-leb _ _ amiss, and-false)
-
-  pub fits-by-lacks : digitsFit e ≡ true → rangesFit e ≡ true → e .start ≤ e .end → lacksFit e ≡ entryFits e
-  unfolding entryFits daysFit
-  fits-by-lacks digits ranges days = simp (digits, ranges, le-leb _ _ days)
+use Rattle.entries.specs.Entries.{entryOf, period}
+use Rattle.soundness.specs.Sound.{isZero, entryFits, sameSubject, isLivePeriod, clash, isNamed, opposite, cancelsBefore, cancelledBefore, pairs, repeatsKey, clashes, unpaired, isFaulty}
 
 module _ (a b : Entry) where
   pub same-by-end : a .sender ≡ b .sender → a .commodity ≡ b .commodity → a .kind ≡ b .kind → a .site ≡ b .site → a .start ≡ b .start

@@ -41,114 +41,68 @@ fn amount_fits(amount: i64) -> bool
 fn digits_fit(e: Entry) -> bool
     ensures { λ r. ⌜ r ≡ digitsFit e ⌝ }
 {
-    if 10000 <= e.sender {
-        return false;
-    }
-    if 10000000000000 <= e.site {
-        return false;
-    }
-    if 1000000000000000 <= e.id {
-        return false;
-    }
-    if 1000000000000000 <= e.cancels {
-        return false;
-    }
-    if !amount_fits(e.charge) {
-        return false;
-    }
-    amount_fits(e.usage)
+    (e.sender < 10000)
+        & (e.site < 10000000000000)
+        & (e.id < 1000000000000000)
+        & (e.cancels < 1000000000000000)
+        & amount_fits(e.charge)
+        & amount_fits(e.usage)
 }
 
 fn is_within(low: u64, high: u64, n: u64) -> bool
     ensures { λ r. ⌜ r ≡ within low high n ⌝ }
 {
-    if n < low {
-        return false;
-    }
-    n <= high
+    (low <= n) & (n <= high)
 }
 
-// "commodities, kinds, states and days are in range, state 0 being for file entries and no others"
-fn ranges_fit(e: Entry) -> bool
-    ensures { λ r. ⌜ r ≡ rangesFit e ⌝ }
+// "state 0 being for file entries and no others"
+fn state_fits(e: Entry) -> bool
+    ensures { λ r. ⌜ r ≡ cond (eqb (e .kind) 1) (eqb (e .state) 0) (not (eqb (e .state) 0)) ⌝ }
 {
-    if !is_within(1, 2, e.commodity) {
-        return false;
-    }
-    if !is_within(1, 3, e.kind) {
-        return false;
-    }
-    if 4 < e.state {
-        return false;
-    }
-    if 36524 < e.start {
-        return false;
-    }
-    if 36524 < e.end {
-        return false;
-    }
     if e.kind == 1 {
         return e.state == 0;
     }
     e.state != 0
 }
 
+// "commodities, kinds, states and days are in range, state 0 being for file entries and no others"
+fn ranges_fit(e: Entry) -> bool
+    ensures { λ r. ⌜ r ≡ rangesFit e ⌝ }
+{
+    is_within(1, 2, e.commodity)
+        & is_within(1, 3, e.kind)
+        & (e.state <= 4)
+        & (e.start <= 36524)
+        & (e.end <= 36524)
+        & state_fits(e)
+}
+
 // Only a period has days and usage.
 fn period_lacks_fit(e: Entry) -> bool
     ensures { λ r. ⌜ r ≡ (isPeriod e || (eqb (e .start) 0 && eqb (e .end) 0 && isZero (e .usage))) ⌝ }
 {
-    if e.kind == 2 {
-        return true;
-    }
-    if e.start != 0 {
-        return false;
-    }
-    if e.end != 0 {
-        return false;
-    }
-    units::size(e.usage) == 0
+    (e.kind == 2) | ((e.start == 0) & (e.end == 0) & (units::size(e.usage) == 0))
 }
 
 // A file has no site.
 fn site_lack_fits(e: Entry) -> bool
     ensures { λ r. ⌜ r ≡ (not (eqb (e .kind) 1) || eqb (e .site) 0) ⌝ }
 {
-    if e.kind != 1 {
-        return true;
-    }
-    e.site == 0
+    (e.kind != 1) | (e.site == 0)
 }
 
 // "what a kind lacks is 0, as is the cancelled ID outside state 4"
 fn lacks_fit(e: Entry) -> bool
     ensures { λ r. ⌜ r ≡ lacksFit e ⌝ }
 {
-    if !period_lacks_fit(e) {
-        return false;
-    }
-    if !site_lack_fits(e) {
-        return false;
-    }
-    if e.state == 4 {
-        return true;
-    }
-    e.cancels == 0
+    period_lacks_fit(e) & site_lack_fits(e) & ((e.state == 4) | (e.cancels == 0))
 }
 
-// The sentences that look at one entry.
+// The sentences that look at one entry. They are joined with no branch between them, as what an entry holds is hard to foresee.
 pub fn entry_fits(e: Entry) -> bool
     ensures { λ r. ⌜ r ≡ entryFits e ⌝ }
 {
-    if !digits_fit(e) {
-        return false;
-    }
-    if !ranges_fit(e) {
-        return false;
-    }
-    if e.end < e.start {
-        return false;
-    }
-    lacks_fit(e)
+    digits_fit(e) & ranges_fit(e) & (e.start <= e.end) & lacks_fit(e)
 }
 
 fn has_same_key(a: Entry, b: Entry) -> bool

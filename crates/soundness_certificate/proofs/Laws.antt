@@ -1,7 +1,8 @@
 -- What the passes show, with one entry more, and that it makes a ledger sound.
+--     not-both                                       where one of two tests fails, not both numbers are those tested for
 --     copied-more                                    a column
 --     keyed-none, keyed-more                         the keys of entries that fit
---     keys-differ                                    where each place leads itself, no sender and Record ID pair repeats
+--     keys-differ                                    where no key repeats, no sender and Record ID pair does
 --     cancels                                        what the tests of a cancel and an entry show
 --     marked-none, marked-more, marked-kept          the marks of cancels: at the start; one more; the same
 --     paired-off                                     where each cancelled entry has a mark, cancels and cancelled entries pair off
@@ -10,7 +11,7 @@
 -- Assumes nothing.
 use mathlib.Core.Path.{_≡_, sym, _∙_, ap, subst}
 use mathlib.Core.List.{List}
-use mathlib.Core.Bool.{true, true≢false}
+use mathlib.Core.Bool.{true, false, _&&_, true≢false}
 use Prim.Native.Nat.{ℕ, _+_, _≤_, _<_}
 use native.Mathlib.Omega.{arith}
 use native.Mathlib.Decide.{ℕ-discrete, decLt}
@@ -20,8 +21,7 @@ use lib.Dec.{eqb}
 use lib.IntN.{ℤ}
 use lib.ListN.{length, getD, set}
 use lib.Seq.{getD-set-same, getD-set-other}
-use Rattle.lists.proofs.Below.{first-least}
-use Rattle.buckets.specs.Buckets.{firstPlace, Led}
+use Rattle.buckets.specs.Buckets.{Distinct}
 use Rattle.live_periods.specs.LivePeriods.{LiveApart}
 use Rattle.entries.specs.declared.Entry.{Entry}
 use Rattle.entries.specs.Entries.{entryOf}
@@ -31,7 +31,10 @@ use Rattle.soundness.specs.Meaning.{EntryFits, Names, Paired, Sound}
 use Rattle.soundness.specs.Sound.{sizesFit, isNamed, opposite, isSound}
 use Rattle.soundness.proofs.Scans.{sizes-mean}
 use Rattle.soundness.proofs.Meaning.{entries-mean, named-means, opposite-means}
-use Rattle.soundness_certificate.specs.Certificate.{Copied, keyOf, keyAt, Keyed, KeysDiffer, Cancels, Marked, CancelledMarked, PairedOff}
+use Rattle.soundness_certificate.specs.Certificate.{Copied, keyOf, keyAt, Keyed, KeysDiffer, stateAt, Cancels, Marked, WithMarks, PairedOff}
+
+pub not-both : (a b x y : ℕ) → (eqb a x && eqb b y) ≡ false → a ≡ x → b ≡ y → ⊥
+not-both a b x y amiss p q = let both : (eqb a x && eqb b y) ≡ true = simp (eq-eqb a x p, eq-eqb b y q) in true≢false (sym both ∙ amiss)
 
 pub copied-more : (f : ℕ → ℕ) (i : ℕ) (column : List ℕ) → i < length column → Copied f i column → Copied f (i + 1) (set column i (f i))
 copied-more f i column room copied =
@@ -48,11 +51,9 @@ module _ (es : List Entry) where
   keyed-more i keys room keyed fits =
       record { fit = below-more (λ k. EntryFits (entryOf es k)) i (keyed .fit) fits; copied = copied-more (keyAt es) i keys room (keyed .copied) }
 
-  pub keys-differ : (used : ℕ) (keys leaders : List ℕ) → Keyed es used keys → Led keys used leaders used → Copied (λ i. i) used leaders → KeysDiffer es used
-  keys-differ used keys leaders keyed led itself i j l h sender id =
-      let same : getD keys i 0 ≡ getD keys j 0 = keyed .copied i (omega arith) ∙ (λ t. keyOf (sender t) (id t)) ∙ sym (keyed .copied j h) in
-      let leads : firstPlace keys used (getD keys j 0) ≡ j = sym (led j h) ∙ itself j h in
-      true≢false (sym (eq-eqb _ _ same) ∙ first-least (λ (k : ℕ). eqb (getD keys k 0) (getD keys j 0)) used i (omega (arith, leads)))
+  pub keys-differ : (used : ℕ) (keys : List ℕ) → Keyed es used keys → Distinct keys used → KeysDiffer es used
+  keys-differ used keys keyed distinct i j l h sender id =
+      distinct i j l h (keyed .copied i (omega arith) ∙ (λ t. keyOf (sender t) (id t)) ∙ sym (keyed .copied j h))
 
   -- ---- marks
   pub cancels : (i j : ℕ) (c e : Entry) → c ≡ entryOf es i → e ≡ entryOf es j → j < i → c .state ≡ 4 → isNamed c e ≡ true → opposite c e ≡ true → Cancels es i j
@@ -118,7 +119,7 @@ module _ (es : List Entry) where
               omega (arith, mark-at k j l l′ cancel names, mark-at i j h l′ (pair .cancel) (pair .names));
         }
 
-    pub paired-off : CancelledMarked es used marks → PairedOff es used
+    pub paired-off : WithMarks (stateAt es) used marks → PairedOff es used
     paired-off all = record {
       cancel-paired = λ i h cancel. let w = M .each i h cancel in (w .0, paired i (w .0) h (w .1));
       cancelled-paired = λ j h cancelled. let w = M .only j (all j h cancelled) in (w .0, w .1, paired (w .0) j (w .1) (w .2));

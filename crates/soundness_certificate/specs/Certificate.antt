@@ -28,6 +28,9 @@ pub record Keyed (es : List Entry) (m : ℕ) (keys : List ℕ) : Type 0 where
 abbrev pub KeysDiffer : List Entry → ℕ → Type 0
 KeysDiffer es used = (i j : ℕ) → i < j → j < used → entryOf es i .sender ≡ entryOf es j .sender → entryOf es i .id ≡ entryOf es j .id → ⊥
 
+abbrev pub stateAt : List Entry → ℕ → ℕ
+stateAt es i = entryOf es i .state
+
 -- ---- "cancels and cancelled entries pair off as 39 and 40 require, the cancelled one earlier"
 -- the cancel at i cancels the entry at j, before it
 pub record Cancels (es : List Entry) (i j : ℕ) : Type 0 where
@@ -42,9 +45,9 @@ pub record Marked (es : List Entry) (m : ℕ) (marks : List ℕ) : Type 0 where
   pub each : (i : ℕ) → i < m → entryOf es i .state ≡ 4 → (j : ℕ) × Cancels es i j × (getD marks j 0 ≡ i + 1)
   pub only : (j : ℕ) → (getD marks j 0 ≡ 0 → ⊥) → (i : ℕ) × (i < m) × Cancels es i j
 
--- each cancelled entry of the first m has a mark
-abbrev pub CancelledMarked : List Entry → ℕ → List ℕ → Type 0
-CancelledMarked es m marks = (j : ℕ) → j < m → entryOf es j .state ≡ 3 → getD marks j 0 ≡ 0 → ⊥
+-- of the first m entries, whose states are given, each cancelled one has a mark
+abbrev pub WithMarks : (ℕ → ℕ) → ℕ → List ℕ → Type 0
+WithMarks state m marks = (j : ℕ) → j < m → state j ≡ 3 → getD marks j 0 ≡ 0 → ⊥
 
 pub record PairedOff (es : List Entry) (used : ℕ) : Type 0 where
   pub cancel-paired : (i : ℕ) → i < used → entryOf es i .state ≡ 4 → (j : ℕ) × Paired es used i j

@@ -9,7 +9,7 @@ ghost use Rattle.entries.specs.Words.{entriesOf};
 ghost use Rattle.buckets.specs.Buckets.{Indexed};
 ghost use Rattle.soundness.specs.Meaning.{Sound};
 ghost use Rattle.soundness.specs.Sound.{isSound};
-ghost use Rattle.soundness_certificate.specs.Certificate.{Copied, keyOf, Keyed, KeysDiffer, Cancels, Marked, CancelledMarked, PairedOff};
+ghost use Rattle.soundness_certificate.specs.Certificate.{Copied, keyOf, Keyed, KeysDiffer, stateAt, Cancels, Marked, WithMarks, PairedOff};
 use entries::Entry;
 
 // One number for a sender and a Record ID.
@@ -19,10 +19,16 @@ fn key(sender: u64, id: u64) -> u64
     sender % 16384 * 1125899906842624 + id % 1125899906842624
 }
 
-// Puts the key of each entry into the column. False where an entry does not fit by itself.
-fn copy_keys(words: &[u64], amounts: &[i64], used: usize, keys: &mut [u64]) -> bool
-    requires { ⌜ (used * 9 ≤ length (now words)) × (used * 2 ≤ length (now amounts)) × (used ≤ length (now keys)) ⌝ }
-    ensures { λ r. ⌜ (r ≡ true → Keyed (entriesOf (now (words .entry)) (now (amounts .entry)) used) used (now (keys .exit))) ⌝ }
+// Puts the key and the state of each entry into the columns. False where an entry does not fit by itself.
+fn copy_keys(
+    words: &[u64],
+    amounts: &[i64],
+    used: usize,
+    keys: &mut [u64],
+    states: &mut [u8],
+) -> bool
+    requires { ⌜ (used * 9 ≤ length (now words)) × (used * 2 ≤ length (now amounts)) × (used ≤ length (now keys)) × (used ≤ length (now states)) ⌝ }
+    ensures { λ r. ⌜ (let es = entriesOf (now (words .entry)) (now (amounts .entry)) used in r ≡ true → Keyed es used (now (keys .exit)) × Copied (stateAt es) used (now (states .exit))) ⌝ }
 {
     let mut i: usize = 0;
     while i < used {
@@ -31,47 +37,30 @@ fn copy_keys(words: &[u64], amounts: &[i64], used: usize, keys: &mut [u64]) -> b
             return false;
         }
         keys[i] = key(e.sender, e.id);
+        states[i] = e.state as u8;
         i += 1;
     }
     true
 }
 
-// Whether the leader of each place is itself.
-fn each_leads(leaders: &[usize], used: usize) -> bool
-    requires { ⌜ used ≤ length (now leaders) ⌝ }
-    ensures { λ r. ⌜ (r ≡ true → Copied (λ i. i) used (now (leaders .entry))) ⌝ }
-{
-    let mut i: usize = 0;
-    while i < used {
-        if leaders[i] != i {
-            return false;
-        }
-        i += 1;
-    }
-    true
-}
-
-// Puts the entries into buckets by their keys. True where each entry fits by itself, and no sender and Record ID pair repeats.
+// Puts the entries into buckets by their keys, and their states into the column. True where each entry fits by itself, and no sender and Record ID pair repeats.
 fn index_keys(
     words: &[u64],
     amounts: &[i64],
     used: usize,
     keys: &mut [u64],
+    states: &mut [u8],
     heads: &mut [usize],
     links: &mut [usize],
 ) -> bool
-    requires { ⌜ (used * 9 ≤ length (now words)) × (used * 2 ≤ length (now amounts)) × (used ≤ 8192) ⌝ }
-    requires { ⌜ (used ≤ length (now keys)) × (length (now heads) ≡ 8192) × (used ≤ length (now links)) × ((b : ℕ) → getD (now heads) b 0 ≡ 0) ⌝ }
-    ensures { λ r. ⌜ (let es = entriesOf (now (words .entry)) (now (amounts .entry)) used in r ≡ true → Keyed es used (now (keys .exit)) × Indexed (now (keys .exit)) used (now (heads .exit)) (now (links .exit)) × KeysDiffer es used) ⌝ }
+    requires { ⌜ (used * 9 ≤ length (now words)) × (used * 2 ≤ length (now amounts)) × (used ≤ length (now keys)) × (used ≤ length (now states)) ⌝ }
+    requires { ⌜ (length (now heads) ≡ 8192) × (used ≤ length (now links)) × ((b : ℕ) → getD (now heads) b 0 ≡ 0) ⌝ }
+    ensures { λ r. ⌜ (let es = entriesOf (now (words .entry)) (now (amounts .entry)) used in r ≡ true → Keyed es used (now (keys .exit)) × Copied (stateAt es) used (now (states .exit)) × Indexed (now (keys .exit)) used (now (heads .exit)) (now (links .exit)) × KeysDiffer es used) ⌝ }
 {
-    let mut leaders = [0usize; 8192];
-    if !copy_keys(words, amounts, used, keys) {
+    if !copy_keys(words, amounts, used, keys, states) {
         return false;
     }
-    if !buckets::index(keys, used, heads, links, &mut leaders) {
-        return false;
-    }
-    each_leads(&leaders, used)
+    buckets::index_distinct(keys, used, heads, links)
 }
 
 // The place of the entry that the cancel at i cancels, or the used count where none is found.
@@ -112,16 +101,17 @@ fn mark_cancelled(
     keys: &[u64],
     heads: &[usize],
     links: &[usize],
+    states: &[u8],
     marks: &mut [usize],
 ) -> bool
-    requires { ⌜ (used * 9 ≤ length (now words)) × (used * 2 ≤ length (now amounts)) × (used ≤ length (now marks)) ⌝ }
-    requires { ⌜ Indexed (now keys) used (now heads) (now links) × ((j : ℕ) → getD (now marks) j 0 ≡ 0) ⌝ }
+    requires { ⌜ (used * 9 ≤ length (now words)) × (used * 2 ≤ length (now amounts)) × (used ≤ length (now states)) × (used ≤ length (now marks)) ⌝ }
+    requires { ⌜ Indexed (now keys) used (now heads) (now links) × Copied (stateAt (entriesOf (now words) (now amounts) used)) used (now states) × ((j : ℕ) → getD (now marks) j 0 ≡ 0) ⌝ }
     ensures { λ r. ⌜ (r ≡ true → Marked (entriesOf (now (words .entry)) (now (amounts .entry)) used) used (now (marks .exit))) ⌝ }
 {
     let mut i: usize = 0;
     while i < used {
-        let e = soundness::entry_in_use(words, amounts, used, i);
-        if e.state == 4 {
+        if states[i] == 4 {
+            let e = soundness::entry_in_use(words, amounts, used, i);
             let j = cancelled_place(words, amounts, used, keys, heads, links, i, e);
             if used <= j {
                 return false;
@@ -137,17 +127,14 @@ fn mark_cancelled(
 }
 
 // Whether each cancelled entry has a mark.
-fn cancelled_are_marked(words: &[u64], amounts: &[i64], used: usize, marks: &[usize]) -> bool
-    requires { ⌜ (used * 9 ≤ length (now words)) × (used * 2 ≤ length (now amounts)) × (used ≤ length (now marks)) ⌝ }
-    ensures { λ r. ⌜ (r ≡ true → CancelledMarked (entriesOf (now (words .entry)) (now (amounts .entry)) used) used (now (marks .entry))) ⌝ }
+fn cancelled_are_marked(states: &[u8], used: usize, marks: &[usize]) -> bool
+    requires { ⌜ (used ≤ length (now states)) × (used ≤ length (now marks)) ⌝ }
+    ensures { λ r. ⌜ (r ≡ true → WithMarks (λ i. getD (now (states .entry)) i 0) used (now (marks .entry))) ⌝ }
 {
     let mut j: usize = 0;
     while j < used {
-        let e = soundness::entry_in_use(words, amounts, used, j);
-        if e.state == 3 {
-            if marks[j] == 0 {
-                return false;
-            }
+        if (states[j] == 3) & (marks[j] == 0) {
+            return false;
         }
         j += 1;
     }
@@ -162,33 +149,102 @@ fn pairs_off(
     keys: &[u64],
     heads: &[usize],
     links: &[usize],
+    states: &[u8],
+    marks: &mut [usize],
 ) -> bool
-    requires { ⌜ (used * 9 ≤ length (now words)) × (used * 2 ≤ length (now amounts)) × (used ≤ 8192) ⌝ }
-    requires { ⌜ Indexed (now keys) used (now heads) (now links) × KeysDiffer (entriesOf (now words) (now amounts) used) used ⌝ }
+    requires { ⌜ (used * 9 ≤ length (now words)) × (used * 2 ≤ length (now amounts)) × (used ≤ length (now states)) × (used ≤ length (now marks)) ⌝ }
+    requires { ⌜ Indexed (now keys) used (now heads) (now links) × Copied (stateAt (entriesOf (now words) (now amounts) used)) used (now states) × ((j : ℕ) → getD (now marks) j 0 ≡ 0) ⌝ }
+    requires { ⌜ KeysDiffer (entriesOf (now words) (now amounts) used) used ⌝ }
     ensures { λ r. ⌜ (r ≡ true → PairedOff (entriesOf (now (words .entry)) (now (amounts .entry)) used) used) ⌝ }
 {
-    let mut marks = [0usize; 8192];
-    if !mark_cancelled(words, amounts, used, keys, heads, links, &mut marks) {
+    if !mark_cancelled(words, amounts, used, keys, heads, links, states, marks) {
         return false;
     }
-    cancelled_are_marked(words, amounts, used, &marks)
+    cancelled_are_marked(states, used, marks)
 }
 
-// Whether the passes show that the entries in use make a sound ledger.
-fn is_certified(words: &[u64], amounts: &[i64], used: usize) -> bool
+// Whether the passes show that the entries in use make a sound ledger. The columns are lent to hold what a pass leaves to the next: in the end the keys, the links and the marks make room for the live periods and their order.
+fn is_certified_in(
+    words: &[u64],
+    amounts: &[i64],
+    used: usize,
+    keys: &mut [u64],
+    lasts: &mut [u64],
+    states: &mut [u8],
+    heads: &mut [usize],
+    links: &mut [usize],
+    marks: &mut [usize],
+) -> bool
+    requires { ⌜ (used * 9 ≤ length (now words)) × (used * 2 ≤ length (now amounts)) × (used ≤ 8192) ⌝ }
+    requires { ⌜ (used ≤ length (now keys)) × (length (now lasts) ≡ length (now keys)) × (used ≤ length (now states)) × (length (now heads) ≡ 8192) × (used ≤ length (now links)) × (used ≤ length (now marks)) ⌝ }
+    requires { ⌜ ((b : ℕ) → getD (now heads) b 0 ≡ 0) × ((j : ℕ) → getD (now marks) j 0 ≡ 0) ⌝ }
+    ensures { λ r. ⌜ (r ≡ true → Sound (entriesOf (now (words .entry)) (now (amounts .entry)) used) used) ⌝ }
+{
+    if !index_keys(words, amounts, used, keys, states, heads, links) {
+        return false;
+    }
+    if !pairs_off(words, amounts, used, keys, heads, links, states, marks) {
+        return false;
+    }
+    live_periods::are_apart(words, amounts, used, keys, lasts, links, marks)
+}
+
+// For up to 1,024 entries: larger columns take longer to make than so few entries to read.
+fn is_certified_of_few(words: &[u64], amounts: &[i64], used: usize) -> bool
+    requires { ⌜ (used * 9 ≤ length (now words)) × (used * 2 ≤ length (now amounts)) × (used ≤ 1024) ⌝ }
+    ensures { λ r. ⌜ (r ≡ true → Sound (entriesOf (now (words .entry)) (now (amounts .entry)) used) used) ⌝ }
+{
+    let mut keys = [0u64; 1024];
+    let mut lasts = [0u64; 1024];
+    let mut states = [0u8; 1024];
+    let mut heads = [0usize; 8192];
+    let mut links = [0usize; 1024];
+    let mut marks = [0usize; 1024];
+    is_certified_in(
+        words,
+        amounts,
+        used,
+        &mut keys,
+        &mut lasts,
+        &mut states,
+        &mut heads,
+        &mut links,
+        &mut marks,
+    )
+}
+
+// For up to 8,192 entries.
+fn is_certified_of_many(words: &[u64], amounts: &[i64], used: usize) -> bool
     requires { ⌜ (used * 9 ≤ length (now words)) × (used * 2 ≤ length (now amounts)) × (used ≤ 8192) ⌝ }
     ensures { λ r. ⌜ (r ≡ true → Sound (entriesOf (now (words .entry)) (now (amounts .entry)) used) used) ⌝ }
 {
     let mut keys = [0u64; 8192];
+    let mut lasts = [0u64; 8192];
+    let mut states = [0u8; 8192];
     let mut heads = [0usize; 8192];
     let mut links = [0usize; 8192];
-    if !index_keys(words, amounts, used, &mut keys, &mut heads, &mut links) {
-        return false;
+    let mut marks = [0usize; 8192];
+    is_certified_in(
+        words,
+        amounts,
+        used,
+        &mut keys,
+        &mut lasts,
+        &mut states,
+        &mut heads,
+        &mut links,
+        &mut marks,
+    )
+}
+
+fn is_certified(words: &[u64], amounts: &[i64], used: usize) -> bool
+    requires { ⌜ (used * 9 ≤ length (now words)) × (used * 2 ≤ length (now amounts)) × (used ≤ 8192) ⌝ }
+    ensures { λ r. ⌜ (r ≡ true → Sound (entriesOf (now (words .entry)) (now (amounts .entry)) used) used) ⌝ }
+{
+    if used <= 1024 {
+        return is_certified_of_few(words, amounts, used);
     }
-    if !pairs_off(words, amounts, used, &keys, &heads, &links) {
-        return false;
-    }
-    live_periods::are_apart(words, amounts, used)
+    is_certified_of_many(words, amounts, used)
 }
 
 // Whether the first entries of a run of places, as many as are in use, make a sound ledger.

@@ -12,10 +12,10 @@ use Rattle.buckets.proofs.index.Statement.{statement}
 use Rattle.buckets.proofs.index.Tie as tie
 
 abbrev Inv-loop : tie.InvT-loop
-Inv-loop values n heads₀ links₀ leaders₀ i₀ heads links leaders i = (i ≤ n) × (length heads ≡ 8192) × (length links ≡ length links₀) × (length leaders ≡ length leaders₀) × Headed values i heads × Linked values i links × Led values n leaders i
+Inv-loop values n heads₀ links₀ leaders₀ limit i₀ heads links leaders i = (i ≤ n) × (length heads ≡ 8192) × (length links ≡ length links₀) × (length leaders ≡ length leaders₀) × Headed values i heads × Linked values i links × Led values n leaders i
 
 abbrev μ-loop : tie.MeasureT-loop
-μ-loop values n heads₀ links₀ leaders₀ i₀ heads links leaders i = n - i
+μ-loop values n heads₀ links₀ leaders₀ limit i₀ heads links leaders i = n - i
 
 loop-holds : tie.Need-loop-holds Inv-loop μ-loop
 loop-holds c =

@@ -10,7 +10,7 @@ use Rattle.entries.specs.Words.{entriesOf}
 use Rattle.soundness.specs.Sound.{isLivePeriod}
 use Rattle.live_periods.specs.LivePeriods.{liveAt, firstDay, lastDay}
 use Rattle.apart.specs.Gathered.{dayNumber, Gathering}
-use Rattle.apart.proofs.Gathering.{gathering-none, gathering-more, gathering-skip, gathering-same}
+use Rattle.apart.proofs.Gathering.{gathering-none, gathering-more, gathering-skip, gathering-kept, gathering-same}
 use borrow.Author.Needs.{needs}
 use native.Mathlib.Omega.{arith}
 use Rattle.live_periods.proofs.gather.Statement.{statement}
@@ -33,9 +33,6 @@ loop-holds c =
 entry-in-use-requires : tie.Need-entry-in-use-requires Inv-loop μ-loop
 entry-in-use-requires c κs = search needs
 
-is-live-period-requires : tie.Need-is-live-period-requires Inv-loop μ-loop
-is-live-period-requires c κs = search needs
-
 day-number-requires : tie.Need-day-number-requires Inv-loop μ-loop
 day-number-requires c κs = search needs
 
@@ -54,6 +51,9 @@ mul-lasts c = search needs
 slice-write-lasts : tie.Need-slice-write-lasts Inv-loop μ-loop
 slice-write-lasts c = search needs
 
+is-live-period-requires : tie.Need-is-live-period-requires Inv-loop μ-loop
+is-live-period-requires c κs = search needs
+
 add-count : tie.Need-add-count Inv-loop μ-loop
 add-count c = search needs
 
@@ -65,31 +65,28 @@ loop-less c = search needs
 
 loop-again : tie.Need-loop-again Inv-loop μ-loop
 loop-again c =
-    let p = c .before .before .before .before .loop in
-    let s = c .before .before .before .before .before .before .before .before in
+    let p = c .before .before .before .before .before .before .loop in
+    let s = c .before .before .before .before .before .before .before .before .before .before in
     let a = s .args in
     let es = entriesOf (now (a .words)) (now (a .amounts)) (a .used) in
-    let is = c .before .before .entry-in-use .ensures in
+    let is = c .before .before .before .before .entry-in-use .ensures in
+    let begins = c .before .before .before .day-number in
+    let ends = c .before .before .day-number2 in
     let tested = sym (c .before .is-live-period .ensures ∙ ap isLivePeriod is) in
-    let less : p .i < a .used = c .before .before .before .loop-test .taken in
-    ⊎-elim
-    (λ w. (
+    let less : p .i < a .used = c .before .before .before .before .before .loop-test .taken in (
       omega arith,
-      ap length (w .3) ∙ simp length-set (p .inv .1),
-      ap length (w .4) ∙ simp length-set (p .inv .2),
-      gathering-same (liveAt es) (firstDay es) (lastDay es) (w .3) (w .4) (w .5)
-          (gathering-more (liveAt es) (firstDay es) (lastDay es) (p .firsts) (p .lasts) (p .i) (p .count) (p .inv .3) (w .1 .result) (w .2 .result)
+      simp length-set (p .inv .1),
+      simp length-set (p .inv .2),
+      ⊎-elim
+          (λ w. gathering-same (liveAt es) (firstDay es) (lastDay es) refl refl (w .1)
+          (gathering-more (liveAt es) (firstDay es) (lastDay es) (p .firsts) (p .lasts) (p .i) (p .count) (p .inv .3) (begins .result) (ends .result)
           (tested ∙ w .0 .taken) (omega (arith, less, p .inv .3 .few, p .inv .1, s .pre)) (omega (arith, less, p .inv .3 .few, p .inv .2, s .pre))
-          (w .1 .ensures ∙ ap (λ (e : Entry). dayNumber (e .site) (e .start)) is) (w .2 .ensures ∙ ap (λ (e : Entry). dayNumber (e .site) (e .end)) is)),
-    ))
-    (λ w. (
-      omega arith,
-      ap length (w .1) ∙ p .inv .1,
-      ap length (w .2) ∙ p .inv .2,
-      gathering-same (liveAt es) (firstDay es) (lastDay es) (w .1) (w .2) (w .3)
-          (gathering-skip (liveAt es) (firstDay es) (lastDay es) (p .firsts) (p .lasts) (p .i) (p .count) (p .inv .3) (tested ∙ w .0 .left)),
-    ))
-    (c .if1 .came)
+          (begins .ensures ∙ ap (λ (e : Entry). dayNumber (e .site) (e .start)) is) (ends .ensures ∙ ap (λ (e : Entry). dayNumber (e .site) (e .end)) is)))
+          (λ w. gathering-same (liveAt es) (firstDay es) (lastDay es) refl refl (w .1)
+          (gathering-skip (liveAt es) (firstDay es) (lastDay es) _ _ (p .i) (p .count)
+          (gathering-kept (liveAt es) (firstDay es) (lastDay es) (p .firsts) (p .lasts) (p .i) (p .count) (p .inv .3) (begins .result) (ends .result)) (tested ∙ w .0 .left)))
+          (c .if1 .came),
+    )
 
 same-length : tie.Need-same-length Inv-loop μ-loop
 same-length c = search needs
@@ -113,13 +110,13 @@ gather-spec =
     μ-loop
     loop-holds
     entry-in-use-requires
-    is-live-period-requires
     day-number-requires
     mul-firsts
     slice-write-firsts
     day-number-requires-2
     mul-lasts
     slice-write-lasts
+    is-live-period-requires
     add-count
     add-i
     loop-less

@@ -1,14 +1,11 @@
 -- `soundness_certificate::cancelled_are_marked` meets its contract. The loop's invariant: the cancelled entries passed have marks.
 -- Assumes nothing.
-use mathlib.Core.Path.{_≡_, _∙_, ap}
-use mathlib.Core.Logic.{⊎-elim}
+use mathlib.Core.Path.{_≡_}
 use Prim.Native.Nat.{ℕ, _-_, _≤_}
 use denote.Ref.{now}
 use lib.ListN.{getD}
-use Rattle.entries.specs.declared.Entry.{Entry}
-use Rattle.entries.specs.Entries.{entryOf}
-use Rattle.entries.specs.Words.{entriesOf}
-use Rattle.soundness_certificate.specs.Certificate.{CancelledMarked}
+use Rattle.soundness_certificate.specs.Certificate.{WithMarks}
+use Rattle.soundness_certificate.proofs.Laws.{not-both}
 use borrow.Author.Count.{below-none, below-more}
 use borrow.Author.Needs.{needs}
 use native.Mathlib.Omega.{arith}
@@ -16,22 +13,22 @@ use Rattle.soundness_certificate.proofs.cancelled_are_marked.Statement.
 use Rattle.soundness_certificate.proofs.cancelled_are_marked.Tie as tie
 
 abbrev Inv-loop : tie.InvT-loop
-Inv-loop words amounts used marks j₀ j = (j ≤ used) × CancelledMarked (entriesOf words amounts used) j marks
+Inv-loop states used marks j₀ j = (j ≤ used) × WithMarks (λ i. getD states i 0) j marks
 
 abbrev μ-loop : tie.MeasureT-loop
-μ-loop words amounts used marks j₀ j = used - j
+μ-loop states used marks j₀ j = used - j
 
 loop-holds : tie.Need-loop-holds Inv-loop μ-loop
 loop-holds c = (omega arith, below-none _)
 
-entry-in-use-requires : tie.Need-entry-in-use-requires Inv-loop μ-loop
-entry-in-use-requires c κs = search needs
+shared-slice-read-if1 : tie.Need-shared-slice-read-if1 Inv-loop μ-loop
+shared-slice-read-if1 c = search needs
 
-mul-if2 : tie.Need-mul-if2 Inv-loop μ-loop
-mul-if2 c = search needs
+mul-if1 : tie.Need-mul-if1 Inv-loop μ-loop
+mul-if1 c = search needs
 
-shared-slice-read-if2 : tie.Need-shared-slice-read-if2 Inv-loop μ-loop
-shared-slice-read-if2 c = search needs
+shared-slice-read-if1-2 : tie.Need-shared-slice-read-if1-2 Inv-loop μ-loop
+shared-slice-read-if1-2 c = search needs
 
 returns : tie.Need-returns Inv-loop μ-loop
 returns c = λ e. let z : _≡_ {A = ℕ} 0 1 = cc in absurd (omega arith)
@@ -45,12 +42,10 @@ loop-less c = search needs
 loop-again : tie.Need-loop-again Inv-loop μ-loop
 loop-again c =
     let p = c .before .before .before .before .loop in
-    let a = c .before .before .before .before .before .before .before .args in
-    let es = entriesOf (now (a .words)) (now (a .amounts)) (a .used) in
-    let is = c .before .before .entry-in-use .ensures in (
+    let a = c .before .before .before .before .before .args in (
       omega arith,
-      below-more (λ k. entryOf es k .state ≡ 3 → getD (now (a .marks)) k 0 ≡ 0 → ⊥) (p .j) (p .inv .1)
-          (λ cancelled none. ⊎-elim (λ w. w .2 .left none) (λ w. w .left (ap (λ (e : Entry). e .state) is ∙ cancelled)) (c .if1 .came)),
+      below-more (λ k. getD (now (a .states)) k 0 ≡ 3 → getD (now (a .marks)) k 0 ≡ 0 → ⊥) (p .j) (p .inv .1)
+          (not-both (getD (now (a .states)) (p .j) 0) (getD (now (a .marks)) (p .j) 0) 3 0 (c .if1 .left)),
     )
 
 returns-2 : tie.Need-returns-2 Inv-loop μ-loop
@@ -63,9 +58,9 @@ cancelled-are-marked-spec =
     Inv-loop
     μ-loop
     loop-holds
-    entry-in-use-requires
-    mul-if2
-    shared-slice-read-if2
+    shared-slice-read-if1
+    mul-if1
+    shared-slice-read-if1-2
     returns
     add-j
     loop-less

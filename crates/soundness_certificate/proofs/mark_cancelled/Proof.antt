@@ -16,21 +16,28 @@ use Rattle.soundness_certificate.proofs.mark_cancelled.Statement.{state
 use Rattle.soundness_certificate.proofs.mark_cancelled.Tie as tie
 
 abbrev Inv-loop : tie.InvT-loop
-Inv-loop words amounts used keys heads links marks₀ i₀ marks i = (i ≤ used) × (length marks ≡ length marks₀) × Marked (entriesOf words amounts used) i marks
+Inv-loop words amounts used keys heads links states marks₀ i₀ marks i = (i ≤ used) × (length marks ≡ length marks₀) × Marked (entriesOf words amounts used) i marks
 
 abbrev μ-loop : tie.MeasureT-loop
-μ-loop words amounts used keys heads links marks₀ i₀ marks i = used - i
+μ-loop words amounts used keys heads links states marks₀ i₀ marks i = used - i
 
 loop-holds : tie.Need-loop-holds Inv-loop μ-loop
 loop-holds c =
-    let s = c .before .before .before .before .before in
-    let a = s .args in (omega arith, refl, marked-none (entriesOf (now (a .words)) (now (a .amounts)) (a .used)) (now (a .marks)) (s .pre .1 .1))
+    let s = c .before .before .before .before .before .before in
+    let a = s .args in (omega arith, refl, marked-none (entriesOf (now (a .words)) (now (a .amounts)) (a .used)) (now (a .marks)) (s .pre .1 .2))
+
+shared-slice-read-if1 : tie.Need-shared-slice-read-if1 Inv-loop μ-loop
+shared-slice-read-if1 c = search needs
 
 entry-in-use-requires : tie.Need-entry-in-use-requires Inv-loop μ-loop
 entry-in-use-requires c κs = search needs
 
 cancelled-place-requires : tie.Need-cancelled-place-requires Inv-loop μ-loop
-cancelled-place-requires c κs = let s = c .before .before .before .before .before .before .before .before .before .before in ((s .pre .0 .0, s .pre .0 .1, c .before .before .before .loop-test .taken), (s .pre .1 .0, (c .before .before .entry-in-use .ensures, c .if1 .taken)))
+cancelled-place-requires c κs =
+    let s = c .before .before .before .before .before .before .before .before .before .before .before in
+    let less = c .before .before .before .loop-test .taken in
+    let is = c .entry-in-use .ensures in
+    ((s .pre .0 .0, s .pre .0 .1, less), (s .pre .1 .0, (is, ap (λ (e : Entry). e .state) is ∙ sym (s .pre .1 .1 _ less) ∙ c .before .if1 .taken)))
 
 same-length : tie.Need-same-length Inv-loop μ-loop
 same-length c = search needs
@@ -67,18 +74,19 @@ loop-less c = search needs
 
 loop-again : tie.Need-loop-again Inv-loop μ-loop
 loop-again c =
-    let p = c .before .before .before .before .loop in
-    let a = c .before .before .before .before .before .before .before .before .before .before .args in
+    let p = c .before .before .before .loop in
+    let s = c .before .before .before .before .before .before .before .before .before .before in
+    let a = s .args in
     let es = entriesOf (now (a .words)) (now (a .amounts)) (a .used) in
-    let is = c .before .before .entry-in-use .ensures in
+    let state = s .pre .1 .1 (p .i) (c .before .before .loop-test .taken) in
     let room : length (p .marks) ≡ length (now (a .marks)) = p .inv .1 in
     ⊎-elim
     (λ w.
-    let j = w .1 .result in
-    let more = marked-more es (p .i) (p .marks) (p .inv .2) j (w .1 .ensures (w .2 .left)) (w .4 .left) (omega (arith, room, w .2 .left, c .before .before .before .before .before .before .before .before .before .before .pre .0)) in
-    (omega arith, ap length (w .5) ∙ simp length-set room, subst (λ (m : List ℕ). Marked es (p .i + 1) m) (sym (w .5)) more))
+    let j = w .2 .result in
+    let more = marked-more es (p .i) (p .marks) (p .inv .2) j (w .2 .ensures (w .3 .left)) (w .5 .left) (omega (arith, room, w .3 .left, s .pre .0)) in
+    (omega arith, ap length (w .6) ∙ simp length-set room, subst (λ (m : List ℕ). Marked es (p .i + 1) m) (sym (w .6)) more))
     (λ w.
-    let kept = marked-kept es (p .i) (p .marks) (p .inv .2) (λ cancel. w .0 .left (ap (λ (e : Entry). e .state) is ∙ cancel)) in
+    let kept = marked-kept es (p .i) (p .marks) (p .inv .2) (λ cancel. w .0 .left (state ∙ cancel)) in
     (omega arith, ap length (w .1) ∙ room, subst (λ (m : List ℕ). Marked es (p .i + 1) m) (sym (w .1)) kept))
     (c .if1 .came)
 
@@ -88,7 +96,7 @@ same-length-3 c = search needs
 returns-3 : tie.Need-returns-3 Inv-loop μ-loop
 returns-3 c =
     let p = c .before .loop in
-    let a = c .before .before .before .before .before .before .before .args in
+    let a = c .before .before .before .before .before .before .before .before .args in
     let z : p .i ≡ a .used = omega arith in
     λ e. subst (λ (m : ℕ). Marked (entriesOf (now (a .words)) (now (a .amounts)) (a .used)) m (p .marks)) z (p .inv .2)
 
@@ -99,6 +107,7 @@ mark-cancelled-spec =
     Inv-loop
     μ-loop
     loop-holds
+    shared-slice-read-if1
     entry-in-use-requires
     cancelled-place-requires
     same-length
