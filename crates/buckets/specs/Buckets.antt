@@ -24,31 +24,33 @@ Led values n leaders m = (i : ℕ) → i < m → getD leaders i 0 ≡ firstPlace
 abbrev pub Distinct : List ℕ → ℕ → Type 0
 Distinct values n = (i j : ℕ) → i < j → j < n → getD values i 0 ≡ getD values j 0 → ⊥
 
-unfoldable pub bucketOf : ℕ → ℕ
-bucketOf x = (x % 4294967296 + x / 4294967296) * 2135587861 / 1048576 % 8192
+-- the bucket of a value, of `size` buckets
+unfoldable pub bucketOf : ℕ → ℕ → ℕ
+bucketOf size x = (x % 4294967296 + x / 4294967296) * 2135587861 / 2 % 4294967296 * size / 4294967296
 
-abbrev pub bucketAt : List ℕ → ℕ → ℕ
-bucketAt values p = bucketOf (getD values p 0)
+abbrev pub bucketAt : ℕ → List ℕ → ℕ → ℕ
+bucketAt size values p = bucketOf size (getD values p 0)
 
 -- k holds the latest of the first m places that is in the bucket b
-pub record Latest (values : List ℕ) (b m k : ℕ) : Type 0 where
+pub record Latest (size : ℕ) (values : List ℕ) (b m k : ℕ) : Type 0 where
   pub within : k ≤ m
-  pub same : 0 < k → bucketAt values (k - 1) ≡ b
+  pub same : 0 < k → bucketAt size values (k - 1) ≡ b
   pub leads : 0 < k → Leads values (k - 1)
-  pub after : (p : ℕ) → p < m → Leads values p → bucketAt values p ≡ b → p < k
+  pub after : (p : ℕ) → p < m → Leads values p → bucketAt size values p ≡ b → p < k
 
 -- of the first m places, each bucket's latest
-abbrev pub Headed : List ℕ → ℕ → List ℕ → Type 0
-Headed values m heads = (b : ℕ) → Latest values b m (getD heads b 0)
+abbrev pub Headed : ℕ → List ℕ → ℕ → List ℕ → Type 0
+Headed size values m heads = (b : ℕ) → Latest size values b m (getD heads b 0)
 
 -- of each of the first m places, the latest before it that is in its bucket
-abbrev pub Linked : List ℕ → ℕ → List ℕ → Type 0
-Linked values m links = (q : ℕ) → q < m → Latest values (bucketAt values q) q (getD links q 0)
+abbrev pub Linked : ℕ → List ℕ → ℕ → List ℕ → Type 0
+Linked size values m links = (q : ℕ) → q < m → Latest size values (bucketAt size values q) q (getD links q 0)
 
 -- the first n places are in their buckets
 pub record Indexed (values : List ℕ) (n : ℕ) (heads links : List ℕ) : Type 0 where
   pub valued : n ≤ length values
-  pub buckets : length heads ≡ 8192
+  pub some : 0 < length heads
+  pub bounded : length heads ≤ 65536
   pub chained : n ≤ length links
-  pub headed : Headed values n heads
-  pub linked : Linked values n links
+  pub headed : Headed (length heads) values n heads
+  pub linked : Linked (length heads) values n links

@@ -4,22 +4,31 @@ ghost use mathlib.Core.Bool.{true, cond};
 ghost use Prim.Native.Nat.{ℕ, _+_, _≤_, _<_};
 ghost use lib.Dec.{eqb};
 ghost use lib.ListN.{length, getD};
-ghost use Rattle.buckets.specs.Buckets.{firstPlace, Led, Distinct, bucketOf, Latest, Linked, Indexed};
+ghost use Rattle.buckets.specs.Buckets.{firstPlace, Led, Distinct, bucketOf, Indexed};
 
-fn bucket(value: u64) -> usize
-    ensures { λ r. ⌜ (r ≡ bucketOf value) × (r < 8192) ⌝ }
+// The bucket of a value, of so many.
+fn bucket(value: u64, size: usize) -> usize
+    requires { ⌜ (0 < size) × (size ≤ 65536) ⌝ }
+    ensures { λ r. ⌜ (r ≡ bucketOf size value) × (r < size) ⌝ }
 {
-    ((value % 4294967296 + value / 4294967296) * 2135587861 / 1048576 % 8192) as usize
+    ((value % 4294967296 + value / 4294967296) * 2135587861 / 2 % 4294967296 * (size as u64)
+        / 4294967296) as usize
 }
 
-// The first of the first m places that has a value, or m, along the chain that starts at `from`; m + 1 where that takes more than `limit` steps.
-fn walk(values: &[u64], links: &[usize], m: usize, from: usize, value: u64, limit: usize) -> usize
-    requires { ⌜ (m ≤ length (now values)) × (m ≤ length (now links)) ⌝ }
-    requires { ⌜ Linked (now values) m (now links) × Latest (now values) (bucketOf value) m from ⌝ }
+// The first of the first m places that has a value, or m, along the chain of its bucket; m + 1 where that takes more than `limit` steps.
+fn walk(
+    values: &[u64],
+    m: usize,
+    heads: &[usize],
+    links: &[usize],
+    value: u64,
+    limit: usize,
+) -> usize
+    requires { ⌜ Indexed (now values) m (now heads) (now links) ⌝ }
     ensures { λ r. ⌜ (r ≤ m → r ≡ firstPlace (now (values .entry)) m value) ⌝ }
     ensures { λ r. ⌜ (m < limit → r ≤ m) ⌝ }
 {
-    let mut held = from;
+    let mut held = heads[bucket(value, heads.len())];
     let mut steps: usize = 0;
     while steps < limit {
         if held == 0 {
@@ -61,9 +70,9 @@ pub fn index(
     let mut i: usize = 0;
     while i < n {
         let value = values[i];
-        let b = bucket(value);
+        let b = bucket(value, heads.len());
         let latest = heads[b];
-        let leader = walk(values, links, i, latest, value, limit);
+        let leader = walk(values, i, heads, links, value, limit);
         if i < leader {
             return false;
         }
@@ -77,16 +86,16 @@ pub fn index(
 
 // Puts the first n places into their buckets. False where a value repeats, and where a chain grows past 32 steps.
 pub fn index_distinct(values: &[u64], n: usize, heads: &mut [usize], links: &mut [usize]) -> bool
-    requires { ⌜ (n ≤ length (now values)) × (n ≤ length (now links)) × (length (now heads) ≡ 8192) ⌝ }
+    requires { ⌜ (n ≤ length (now values)) × (n ≤ length (now links)) × (0 < length (now heads)) × (length (now heads) ≤ 65536) ⌝ }
     requires { ⌜ ((b : ℕ) → getD (now heads) b 0 ≡ 0) ⌝ }
     ensures { λ r. ⌜ (r ≡ true → Indexed (now (values .entry)) n (now (heads .exit)) (now (links .exit)) × Distinct (now (values .entry)) n) ⌝ }
 {
     let mut i: usize = 0;
     while i < n {
         let value = values[i];
-        let b = bucket(value);
+        let b = bucket(value, heads.len());
         let latest = heads[b];
-        if walk(values, links, i, latest, value, 32) != i {
+        if walk(values, i, heads, links, value, 32) != i {
             return false;
         }
         heads[b] = i + 1;
@@ -101,5 +110,5 @@ pub fn place_of(values: &[u64], n: usize, heads: &[usize], links: &[usize], valu
     requires { ⌜ Indexed (now values) n (now heads) (now links) ⌝ }
     ensures { λ r. ⌜ r ≡ firstPlace (now (values .entry)) n value ⌝ }
 {
-    walk(values, links, n, heads[bucket(value)], value, n + 1)
+    walk(values, n, heads, links, value, n + 1)
 }

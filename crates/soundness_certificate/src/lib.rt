@@ -54,7 +54,7 @@ fn index_keys(
     links: &mut [usize],
 ) -> bool
     requires { ⌜ (used * 9 ≤ length (now words)) × (used * 2 ≤ length (now amounts)) × (used ≤ length (now keys)) × (used ≤ length (now states)) ⌝ }
-    requires { ⌜ (length (now heads) ≡ 8192) × (used ≤ length (now links)) × ((b : ℕ) → getD (now heads) b 0 ≡ 0) ⌝ }
+    requires { ⌜ (0 < length (now heads)) × (length (now heads) ≤ 65536) × (used ≤ length (now links)) × ((b : ℕ) → getD (now heads) b 0 ≡ 0) ⌝ }
     ensures { λ r. ⌜ (let es = entriesOf (now (words .entry)) (now (amounts .entry)) used in r ≡ true → Keyed es used (now (keys .exit)) × Copied (stateAt es) used (now (states .exit)) × Indexed (now (keys .exit)) used (now (heads .exit)) (now (links .exit)) × KeysDiffer es used) ⌝ }
 {
     if !copy_keys(words, amounts, used, keys, states) {
@@ -176,7 +176,7 @@ fn is_certified_in(
     marks: &mut [usize],
 ) -> bool
     requires { ⌜ (used * 9 ≤ length (now words)) × (used * 2 ≤ length (now amounts)) × (used ≤ 8192) ⌝ }
-    requires { ⌜ (used ≤ length (now keys)) × (length (now lasts) ≡ length (now keys)) × (used ≤ length (now states)) × (length (now heads) ≡ 8192) × (used ≤ length (now links)) × (used ≤ length (now marks)) ⌝ }
+    requires { ⌜ (used ≤ length (now keys)) × (length (now lasts) ≡ length (now keys)) × (used ≤ length (now states)) × (0 < length (now heads)) × (length (now heads) ≤ 65536) × (used ≤ length (now links)) × (used ≤ length (now marks)) ⌝ }
     requires { ⌜ ((b : ℕ) → getD (now heads) b 0 ≡ 0) × ((j : ℕ) → getD (now marks) j 0 ≡ 0) ⌝ }
     ensures { λ r. ⌜ (r ≡ true → Sound (entriesOf (now (words .entry)) (now (amounts .entry)) used) used) ⌝ }
 {
@@ -213,7 +213,7 @@ fn is_certified_of_few(words: &[u64], amounts: &[i64], used: usize) -> bool
     )
 }
 
-// For up to 8,192 entries.
+// For up to 8,192 entries, and twice as many buckets, so that few of them hold two entries.
 fn is_certified_of_many(words: &[u64], amounts: &[i64], used: usize) -> bool
     requires { ⌜ (used * 9 ≤ length (now words)) × (used * 2 ≤ length (now amounts)) × (used ≤ 8192) ⌝ }
     ensures { λ r. ⌜ (r ≡ true → Sound (entriesOf (now (words .entry)) (now (amounts .entry)) used) used) ⌝ }
@@ -221,7 +221,7 @@ fn is_certified_of_many(words: &[u64], amounts: &[i64], used: usize) -> bool
     let mut keys = [0u64; 8192];
     let mut lasts = [0u64; 8192];
     let mut states = [0u8; 8192];
-    let mut heads = [0usize; 8192];
+    let mut heads = [0usize; 16384];
     let mut links = [0usize; 8192];
     let mut marks = [0usize; 8192];
     is_certified_in(

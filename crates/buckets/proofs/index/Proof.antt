@@ -1,10 +1,10 @@
 -- `buckets::index` meets its contract. The loop's invariant: the places passed are in their buckets, and their leaders in the column.
 -- Assumes nothing.
-use Rattle.buckets.proofs.Laws.{headed-none, headed-more, linked-none, linked-more, led-more}
-use Rattle.buckets.specs.Buckets.{Led, Latest, Headed, Linked, Indexed}
+use Rattle.buckets.proofs.Laws.{indexed-none, indexed-more, led-more}
+use Rattle.buckets.specs.Buckets.{Led, Indexed}
 use lib.ListN.{length, length-set, getD, set}
 use denote.Ref.{now}
-use Prim.Native.Nat.{ℕ, _+_, _-_, _≤_, _<_}
+use Prim.Native.Nat.{ℕ, _+_, _-_, _≤_}
 use mathlib.Core.Path.{_≡_, refl, sym, subst}
 use borrow.Author.Needs.{needs}
 use native.Mathlib.Omega.{arith}
@@ -12,7 +12,8 @@ use Rattle.buckets.proofs.index.Statement.{statement}
 use Rattle.buckets.proofs.index.Tie as tie
 
 abbrev Inv-loop : tie.InvT-loop
-Inv-loop values n heads₀ links₀ leaders₀ limit i₀ heads links leaders i = (i ≤ n) × (length heads ≡ 8192) × (length links ≡ length links₀) × (length leaders ≡ length leaders₀) × Headed values i heads × Linked values i links × Led values n leaders i
+Inv-loop values n heads₀ links₀ leaders₀ limit i₀ heads links leaders i =
+    (i ≤ n) × (length heads ≡ 8192) × (length links ≡ length links₀) × (length leaders ≡ length leaders₀) × Indexed values i heads links × Led values n leaders i
 
 abbrev μ-loop : tie.MeasureT-loop
 μ-loop values n heads₀ links₀ leaders₀ limit i₀ heads links leaders i = n - i
@@ -20,8 +21,7 @@ abbrev μ-loop : tie.MeasureT-loop
 loop-holds : tie.Need-loop-holds Inv-loop μ-loop
 loop-holds c =
     let s = c .before .before .before .before in
-    let values = now (s .args .values) in
-    (omega arith, s .pre .0 .3, refl, refl, headed-none values (now (s .args .heads)) (s .pre .1), linked-none values (now (s .args .links)), λ q h. absurd (omega arith))
+    (omega arith, s .pre .0 .3, refl, refl, indexed-none (now (s .args .values)) (now (s .args .heads)) (now (s .args .links)) (omega (arith, s .pre .0 .3)) (omega (arith, s .pre .0 .3)) (s .pre .1), λ q h. absurd (omega arith))
 
 mul-value : tie.Need-mul-value Inv-loop μ-loop
 mul-value c = search needs
@@ -39,10 +39,7 @@ slice-read-latest : tie.Need-slice-read-latest Inv-loop μ-loop
 slice-read-latest c = search needs
 
 walk-requires : tie.Need-walk-requires Inv-loop μ-loop
-walk-requires c κs =
-    let p = c .before .before .before .before .before .loop in
-    let b = c .before .before .bucket in
-    ((omega (arith, p .inv .2), omega (arith, p .inv .2)), (p .inv .5, subst (λ (a : ℕ). Latest (now (c .before .before .before .before .before .before .before .before .before .before .args .values)) a (p .i) (getD (p .heads) (b .result) 0)) (b .ensures .0) (p .inv .4 (b .result))))
+walk-requires c κs = c .before .before .before .before .before .before .loop .inv .4
 
 same-length : tie.Need-same-length Inv-loop μ-loop
 same-length c = search needs
@@ -85,20 +82,20 @@ loop-less c = search needs
 
 loop-again : tie.Need-loop-again Inv-loop μ-loop
 loop-again c =
-    let p = c .before .before .before .before .before .before .before .before .loop in
-    let s = c .before .before .before .before .before .before .before .before .before .before .before .before .before in
+    let p = c .before .before .before .before .before .before .before .before .before .loop in
+    let s = c .before .before .before .before .before .before .before .before .before .before .before .before .before .before in
     let values = now (s .args .values) in
-    let b = c .before .before .before .before .before .bucket in
+    let b = c .before .before .before .before .before .before .bucket in
     let leader = c .before .before .walk .result in
     let first = c .before .before .walk .ensures .0 (omega (arith, c .before .if1 .left)) in
-    let room : b .result < length (p .heads) = omega (arith, b .ensures .1) in (
+    let less = c .before .before .before .before .before .before .before .before .loop-test .taken in
+    let more = indexed-more values (p .heads) (p .links) (p .i) (b .result) leader (p .inv .4) (b .ensures .0) (b .ensures .1) first (omega (arith, s .pre .0, less)) (omega (arith, s .pre .0, less, p .inv .2)) in (
       omega arith,
       simp length-set (p .inv .1),
       simp length-set (p .inv .2),
       simp length-set (p .inv .3),
-      subst (λ (h : ℕ). Headed values (p .i + 1) (set (p .heads) (b .result) h)) (sym (c .held-after .ensures)) (headed-more values (p .heads) (b .result) (p .i) (b .ensures .0) (p .inv .4) leader room first),
-      linked-more values (p .heads) (b .result) (p .i) (b .ensures .0) (p .inv .4) (p .links) (omega (arith, p .inv .2)) (p .inv .5),
-      led-more values (s .args .n) (p .i) (c .before .before .before .before .before .before .before .loop-test .taken) (p .leaders) leader (omega (arith, p .inv .3)) first (p .inv .6),
+      subst (λ (h : ℕ). Indexed values (p .i + 1) (set (p .heads) (b .result) h) (set (p .links) (p .i) (getD (p .heads) (b .result) 0))) (sym (c .held-after .ensures)) more,
+      led-more values (s .args .n) (p .i) less (p .leaders) leader (omega (arith, p .inv .3)) first (p .inv .5),
     )
 
 same-length-4 : tie.Need-same-length-4 Inv-loop μ-loop
@@ -115,8 +112,7 @@ returns-2 c =
     let p = c .before .loop in
     let s = c .before .before .before .before .before .before in
     let z : p .i ≡ s .args .n = omega arith in
-    λ e. subst (λ (m : ℕ). Indexed (now (s .args .values)) m (p .heads) (p .links) × Led (now (s .args .values)) (s .args .n) (p .leaders) m) z
-    (record { valued = omega arith; buckets = p .inv .1; chained = omega (arith, p .inv .2); headed = p .inv .4; linked = p .inv .5 }, p .inv .6)
+    λ e. subst (λ (m : ℕ). Indexed (now (s .args .values)) m (p .heads) (p .links) × Led (now (s .args .values)) (s .args .n) (p .leaders) m) z (p .inv .4, p .inv .5)
 
 pub index-spec : {M : Type 1} → statement M
 index-spec =

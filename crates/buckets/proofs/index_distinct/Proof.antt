@@ -1,10 +1,10 @@
 -- `buckets::index_distinct` meets its contract. The loop's invariant: the places passed are in their buckets, and no value repeats among them.
 -- Assumes nothing.
-use Rattle.buckets.proofs.Laws.{headed-none, headed-new, linked-none, linked-more, distinct-more}
-use Rattle.buckets.specs.Buckets.{Distinct, Latest, Headed, Linked, Indexed}
-use lib.ListN.{length, length-set, getD}
+use Rattle.buckets.proofs.Laws.{indexed-none, indexed-new, distinct-more}
+use Rattle.buckets.specs.Buckets.{Distinct, Indexed}
+use lib.ListN.{length, length-set}
 use denote.Ref.{now}
-use Prim.Native.Nat.{ℕ, _-_, _≤_, _<_}
+use Prim.Native.Nat.{ℕ, _-_, _≤_}
 use mathlib.Core.Path.{_≡_, refl, sym, _∙_, subst}
 use borrow.Author.Needs.{needs}
 use native.Mathlib.Omega.{arith}
@@ -12,7 +12,7 @@ use Rattle.buckets.proofs.index_distinct.Statement.{statement}
 use Rattle.buckets.proofs.index_distinct.Tie as tie
 
 abbrev Inv-loop : tie.InvT-loop
-Inv-loop values n heads₀ links₀ i₀ heads links i = (i ≤ n) × (length heads ≡ 8192) × (length links ≡ length links₀) × Headed values i heads × Linked values i links × Distinct values i
+Inv-loop values n heads₀ links₀ i₀ heads links i = (i ≤ n) × (length heads ≡ length heads₀) × (length links ≡ length links₀) × Indexed values i heads links × Distinct values i
 
 abbrev μ-loop : tie.MeasureT-loop
 μ-loop values n heads₀ links₀ i₀ heads links i = n - i
@@ -20,8 +20,7 @@ abbrev μ-loop : tie.MeasureT-loop
 loop-holds : tie.Need-loop-holds Inv-loop μ-loop
 loop-holds c =
     let s = c .before .before .before in
-    let values = now (s .args .values) in
-    (omega arith, s .pre .0 .2, refl, headed-none values (now (s .args .heads)) (s .pre .1), linked-none values (now (s .args .links)), λ a b l h. absurd (omega arith))
+    (omega arith, refl, refl, indexed-none (now (s .args .values)) (now (s .args .heads)) (now (s .args .links)) (s .pre .0 .2) (s .pre .0 .3) (s .pre .1), λ a b l h. absurd (omega arith))
 
 mul-value : tie.Need-mul-value Inv-loop μ-loop
 mul-value c = search needs
@@ -39,10 +38,7 @@ slice-read-latest : tie.Need-slice-read-latest Inv-loop μ-loop
 slice-read-latest c = search needs
 
 walk-requires : tie.Need-walk-requires Inv-loop μ-loop
-walk-requires c κs =
-    let p = c .before .before .before .before .before .loop in
-    let b = c .before .before .bucket in
-    ((omega (arith, p .inv .2), omega (arith, p .inv .2)), (p .inv .4, subst (λ (a : ℕ). Latest (now (c .before .before .before .before .before .before .before .before .before .args .values)) a (p .i) (getD (p .heads) (b .result) 0)) (b .ensures .0) (p .inv .3 (b .result))))
+walk-requires c κs = c .before .before .before .before .before .before .loop .inv .3
 
 same-length : tie.Need-same-length Inv-loop μ-loop
 same-length c = search needs
@@ -76,20 +72,19 @@ loop-less c = search needs
 
 loop-again : tie.Need-loop-again Inv-loop μ-loop
 loop-again c =
-    let p = c .before .before .before .before .before .before .before .loop in
-    let s = c .before .before .before .before .before .before .before .before .before .before .before in
+    let p = c .before .before .before .before .before .before .before .before .loop in
+    let s = c .before .before .before .before .before .before .before .before .before .before .before .before in
     let values = now (s .args .values) in
-    let b = c .before .before .before .before .bucket in
+    let b = c .before .before .before .before .before .bucket in
     let leader = c .before .walk .result in
     let itself : leader ≡ p .i = c .if1 .left in
     let first = c .before .walk .ensures .0 (omega (arith, itself)) in
-    let room : b .result < length (p .heads) = omega (arith, b .ensures .1) in (
+    let less = c .before .before .before .before .before .before .before .loop-test .taken in (
       omega arith,
       simp length-set (p .inv .1),
       simp length-set (p .inv .2),
-      headed-new values (p .heads) (b .result) (p .i) (b .ensures .0) (p .inv .3) leader room first itself,
-      linked-more values (p .heads) (b .result) (p .i) (b .ensures .0) (p .inv .3) (p .links) (omega (arith, p .inv .2)) (p .inv .4),
-      distinct-more values (p .i) (sym first ∙ itself) (p .inv .5),
+      indexed-new values (p .heads) (p .links) (p .i) (b .result) leader (p .inv .3) (b .ensures .0) (b .ensures .1) first (omega (arith, s .pre .0, less)) (omega (arith, s .pre .0, less, p .inv .2)) itself,
+      distinct-more values (p .i) (sym first ∙ itself) (p .inv .4),
     )
 
 same-length-3 : tie.Need-same-length-3 Inv-loop μ-loop
@@ -103,8 +98,7 @@ returns-2 c =
     let p = c .before .loop in
     let s = c .before .before .before .before .before in
     let z : p .i ≡ s .args .n = omega arith in
-    λ e. subst (λ (m : ℕ). Indexed (now (s .args .values)) m (p .heads) (p .links) × Distinct (now (s .args .values)) m) z
-    (record { valued = omega arith; buckets = p .inv .1; chained = omega (arith, p .inv .2); headed = p .inv .3; linked = p .inv .4 }, p .inv .5)
+    λ e. subst (λ (m : ℕ). Indexed (now (s .args .values)) m (p .heads) (p .links) × Distinct (now (s .args .values)) m) z (p .inv .3, p .inv .4)
 
 pub index-distinct-spec : {M : Type 1} → statement M
 index-distinct-spec =
