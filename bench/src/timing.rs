@@ -50,7 +50,8 @@ fn median(mut times: Vec<f64>) -> f64 {
     times[times.len() / 2]
 }
 
-/// Times both sides, one after the other, on inputs that neither has met before. Both must give the expected answer.
+/// Times both sides, one after the other, on inputs that neither has met before. The side that comes second finds the input in the
+/// cache, so each side is the first on every other input. Both must give the expected answer.
 pub fn medians<Input, Answer: PartialEq + Debug>(
     mut draw: impl FnMut() -> Input,
     expected: Answer,
@@ -60,9 +61,11 @@ pub fn medians<Input, Answer: PartialEq + Debug>(
     let mut proved_times = Vec::new();
     let mut reference_times = Vec::new();
     let mut earlier = draw();
-    for _ in 0..INPUTS {
+    for turn in 0..INPUTS {
         let fresh = draw();
-        for (side, times) in [(&proved as &dyn Fn(&Input) -> Answer, &mut proved_times), (&reference, &mut reference_times)] {
+        let mut sides = [(&proved as &dyn Fn(&Input) -> Answer, &mut proved_times), (&reference, &mut reference_times)];
+        sides.rotate_left(turn % 2);
+        for (side, times) in sides {
             let (answer, time) = timed(side, &earlier, &fresh);
             assert_eq!(answer, expected);
             times.push(time);

@@ -63,7 +63,7 @@ pub fn index(
     leaders: &mut [usize],
     limit: usize,
 ) -> bool
-    requires { ⌜ (n ≤ length (now values)) × (n ≤ length (now links)) × (n ≤ length (now leaders)) × (length (now heads) ≡ 8192) ⌝ }
+    requires { ⌜ (n ≤ length (now values)) × (n ≤ length (now links)) × (n ≤ length (now leaders)) × (0 < length (now heads)) × (length (now heads) ≤ 65536) ⌝ }
     requires { ⌜ ((b : ℕ) → getD (now heads) b 0 ≡ 0) ⌝ }
     ensures { λ r. ⌜ (r ≡ true → Indexed (now (values .entry)) n (now (heads .exit)) (now (links .exit)) × Led (now (values .entry)) n (now (leaders .exit)) n) ⌝ }
 {

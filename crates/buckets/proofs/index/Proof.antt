@@ -13,7 +13,7 @@ use Rattle.buckets.proofs.index.Tie as tie
 
 abbrev Inv-loop : tie.InvT-loop
 Inv-loop values n heads₀ links₀ leaders₀ limit i₀ heads links leaders i =
-    (i ≤ n) × (length heads ≡ 8192) × (length links ≡ length links₀) × (length leaders ≡ length leaders₀) × Indexed values i heads links × Led values n leaders i
+    (i ≤ n) × (length heads ≡ length heads₀) × (length links ≡ length links₀) × (length leaders ≡ length leaders₀) × Indexed values i heads links × Led values n leaders i
 
 abbrev μ-loop : tie.MeasureT-loop
 μ-loop values n heads₀ links₀ leaders₀ limit i₀ heads links leaders i = n - i
@@ -21,7 +21,7 @@ abbrev μ-loop : tie.MeasureT-loop
 loop-holds : tie.Need-loop-holds Inv-loop μ-loop
 loop-holds c =
     let s = c .before .before .before .before in
-    (omega arith, s .pre .0 .3, refl, refl, indexed-none (now (s .args .values)) (now (s .args .heads)) (now (s .args .links)) (omega (arith, s .pre .0 .3)) (omega (arith, s .pre .0 .3)) (s .pre .1), λ q h. absurd (omega arith))
+    (omega arith, refl, refl, refl, indexed-none (now (s .args .values)) (now (s .args .heads)) (now (s .args .links)) (s .pre .0 .3) (s .pre .0 .4) (s .pre .1), λ q h. absurd (omega arith))
 
 mul-value : tie.Need-mul-value Inv-loop μ-loop
 mul-value c = search needs

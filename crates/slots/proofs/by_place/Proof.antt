@@ -20,7 +20,7 @@ slice-aggregate-index-2 : tie.Need-slice-aggregate-index-2
 slice-aggregate-index-2 c = search needs
 
 index-requires : tie.Need-index-requires
-index-requires c κs = let s = c .before .before .before .before .before .before .before in ((le-refl _, omega (arith, s .pre .few, length-replicate {A = ℕ} 4096 0), s .pre .owns, length-replicate {A = ℕ} 8192 0), zeros 8192)
+index-requires c κs = let s = c .before .before .before .before .before .before .before in ((le-refl _, omega (arith, s .pre .few, length-replicate {A = ℕ} 4096 0), s .pre .owns, omega (arith, length-replicate {A = ℕ} 8192 0), omega (arith, length-replicate {A = ℕ} 8192 0)), zeros 8192)
 
 same-length : tie.Need-same-length
 same-length c = search needs
