@@ -3,6 +3,7 @@
 -- Assumes nothing.
 use Rattle.passing_lines.specs.Lines.{LinePasses, LineRead}
 use Rattle.passing_lines.specs.declared.Line.{Line}
+use Rattle.passing_lines.proofs.Heads.{never}
 use Rattle.passing_lines.proofs.Lines.{all-pass}
 use Rattle.coded_fields.specs.Steps.{unitIf}
 use Rattle.coded_fields.proofs.Codes.{unit-is}
@@ -25,9 +26,6 @@ use borrow.Author.Needs.{needs}
 use native.Mathlib.Omega.{arith}
 use Rattle.passing_lines.proofs.read_passing.Statement.{statement}
 use Rattle.passing_lines.proofs.read_passing.Tie as tie
-
-never : {A : Type 0} → false ≡ true → A
-never e = let z : _≡_ {A = ℕ} 0 1 = cc in absurd (omega arith)
 
 holds : (b : Bool) → not b ≡ false → b ≡ true
 holds true e = refl
