@@ -28,10 +28,13 @@ pub enum Ids {
     OneBucket,
 }
 
+/// How many buckets the proved code's hash tables have for a file of more than 1,024 lines.
+const BUCKETS: u64 = 8_192;
+
 /// The bucket of an ID in the proved code's hash tables.
 fn bucket(id: u64) -> u64 {
     let folded = id % (1 << 32) + id / (1 << 32);
-    (folded * 2_135_587_861 / (1 << 20)) % 8_192
+    (folded * 2_135_587_861 / (1 << 20)) % BUCKETS
 }
 
 /// Draws IDs below a limit, no two alike.
@@ -91,22 +94,37 @@ impl Files {
 
     /// A file of so many lines and many sites, a period each.
     pub fn many_sites(&mut self, lines: usize, ids: Ids) -> Vec<u8> {
+        self.many_sites_draft(lines, ids).plain_bytes()
+    }
+
+    pub fn many_sites_draft(&mut self, lines: usize, ids: Ids) -> Draft {
         let mut draft = self.generator.valid_of_lines(&REQUEST, lines);
         let random = &mut self.generator.random;
         match ids {
             Ids::Rising => {}
             Ids::Random => redraw_ids(&mut draft, random, None),
             Ids::OneBucket => {
-                let only = random.below(8_192);
+                let only = random.below(BUCKETS);
                 redraw_ids(&mut draft, random, Some(only));
             }
         }
-        draft.plain_bytes()
+        draft
     }
 
     /// A file of so many lines and one site with so many periods.
     pub fn one_site(&mut self, lines: usize, periods: usize) -> Vec<u8> {
-        self.generator.valid_of_one_site(&Request { periods, ..REQUEST }, lines).plain_bytes()
+        self.one_site_draft(lines, periods).plain_bytes()
+    }
+
+    pub fn one_site_draft(&mut self, lines: usize, periods: usize) -> Draft {
+        self.generator.valid_of_one_site(&Request { periods, ..REQUEST }, lines)
+    }
+
+    /// So many Site IDs, all in one bucket.
+    pub fn sites_of_one_bucket(&mut self, count: usize) -> Vec<u64> {
+        let random = &mut self.generator.random;
+        let mut sites = FreshIds::new(SITE_LIMIT, Some(random.below(BUCKETS)));
+        (0..count).map(|_| sites.draw(random)).collect()
     }
 
     /// A file of as many lines as a file may have, all its fields filled and as long as their types allow.

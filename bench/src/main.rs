@@ -8,14 +8,17 @@
 //! `valgrind --tool=callgrind target/release/bench profile reference-check 11`.
 
 mod files;
+mod hurt;
 mod ledgers;
 mod longest;
 mod timing;
 
 use compare::proved;
 use files::{Files, Ids};
+use hurt::LATE_FAILURES;
 use ledgers::Ledgers;
 use reference::check::check;
+use reference::file::RecordType;
 use reference::generate::RETAILER;
 use reference::ledger::{sound, Entry};
 use std::hint::black_box;
@@ -49,6 +52,26 @@ fn report_lines(what: &str, mut draw: impl FnMut(usize) -> Vec<u8>) -> [Medians;
         report(&format!("check, {lines} lines, {what}"), &medians);
         medians
     })
+}
+
+/// Times files of 4,096 lines that a test refuses. The line is another one in each file: that both sides answer the same is compare's.
+fn report_refused(what: &str, test: u32, draw: impl FnMut() -> Vec<u8>) {
+    let medians = medians(draw, test, |file| proved_check(file).0, |file| reference_check(file).0);
+    report(&format!("check, 4096 lines, {what}"), &medians);
+}
+
+/// Files with one wrong record near their end, and files that are made to hurt.
+fn report_hurt() {
+    let mut files = Files::new();
+    for test in LATE_FAILURES {
+        report_refused(&format!("refused by test {test} near the end"), test, || files.wrong_at_the_end(test));
+    }
+    let (site, period, charge) = (RecordType::SiteHeader, RecordType::PeriodHeader, RecordType::OneTimeCharge);
+    report_refused("2047 sites, refused by test 30 at the last", 30, || files.last_total_wrong(charge, site));
+    report_refused("2047 sites, refused by test 32 at the last", 32, || files.last_total_wrong(period, period));
+    report("check, 4096 lines, 2047 sites in one bucket", &check_medians(|| files.sites_in_one_bucket(), PASSES));
+    let what = "check, 4096 lines, 2047 headers of one site, each with a period that shares days with all others";
+    report(what, &check_medians(|| files.headers_of_one_site(), PASSES));
 }
 
 fn report_checks() {
@@ -123,6 +146,7 @@ fn main() {
     match &arguments[..] {
         [] => {
             report_checks();
+            report_hurt();
             report_soundness();
         }
         [command, side, calls] if command == "profile" => profile(side, calls.parse().expect("N is a number")),

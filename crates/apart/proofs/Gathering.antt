@@ -2,6 +2,10 @@
 --     gathering-none, gathering-more, gathering-skip    the invariant of a loop that gathers spans: at the start; one more; the same
 --     gathering-kept                                    what is written past those gathered does not matter
 --     gathering-same                                    what holds of lists and a count holds of those equal to them
+--     count-less                                        the spans gathered stand in the order of their places
+--     day-rises, filled-above                           the number of a day of a site does not fall where the day rises, and is above 0 where the day is
+--     span-of                                           where the span of a place stands, and its first and its last number
+--     day-within                                        the number of a day that a period has is in its span
 --     days-apart                                        where no two spans gathered meet, no day of a site is in two of the periods
 -- Assumes nothing.
 use mathlib.Core.Path.{_≡_, refl, sym, _∙_, ap, subst}
@@ -20,7 +24,7 @@ use Rattle.apart.specs.Gathered.{dayNumber, Gathered, Gathering}
 
 module _ (f : ℕ → Bool) where
   -- a place at which the test holds counts for all later ones
-  count-less : (i j : ℕ) → i < j → f i ≡ true → countBelow f i < countBelow f j
+  pub count-less : (i j : ℕ) → i < j → f i ≡ true → countBelow f i < countBelow f j
   unfolding countBelow
   count-less i zero h e = absurd (omega arith)
   count-less i (suc j) h e = go (decLt i j) (λ l. count-less i j l e)
@@ -94,19 +98,27 @@ module _ (f : ℕ → Bool) where
           }
 
 -- ---- periods of sites
-day-rises : (site a b : ℕ) → a ≤ b → dayNumber site a ≤ dayNumber site b
+pub day-rises : (site a b : ℕ) → a ≤ b → dayNumber site a ≤ dayNumber site b
 unfolding dayNumber
 day-rises site a b h = omega arith
 
+pub filled-above : (site day : ℕ) → (day ≡ 0 → ⊥) → 0 < dayNumber site day
+unfolding dayNumber
+filled-above site day filled = omega (arith, filled)
+
 module _ (f : ℕ → Bool) (site start end : ℕ → ℕ) (firsts lasts : List ℕ) (n count : ℕ)
     (G : Gathering f (λ i. dayNumber (site i) (start i)) (λ i. dayNumber (site i) (end i)) firsts lasts n count) where
-  -- the number of a day that the period at i has is in its span
-  day-within : (i : ℕ) → i < n → f i ≡ true → (s d : ℕ) → site i ≡ s → start i ≤ d → d ≤ end i → Within firsts lasts (countBelow f i) (dayNumber s d)
+  pub span-of : (i : ℕ) → i < n → f i ≡ true
+      → (countBelow f i < count) × (getD firsts (countBelow f i) 0 ≡ dayNumber (site i) (start i)) × (getD lasts (countBelow f i) 0 ≡ dayNumber (site i) (end i))
   unfolding Gathered
-  day-within i h holds s d same from until = (
-    omega (arith, G .begun i h holds, ap (λ (x : ℕ). dayNumber x (start i)) same, day-rises s (start i) d from),
-    omega (arith, G .over i h holds, ap (λ (x : ℕ). dayNumber x (end i)) same, day-rises s d (end i) until),
-  )
+  span-of i h holds = (omega (arith, G .counted, count-less f i n h holds), G .begun i h holds, G .over i h holds)
+
+  pub day-within : (i : ℕ) → i < n → f i ≡ true → (s d : ℕ) → site i ≡ s → start i ≤ d → d ≤ end i → Within firsts lasts (countBelow f i) (dayNumber s d)
+  day-within i h holds s d same from until =
+      let span = span-of i h holds in (
+        omega (arith, span .1, ap (λ (x : ℕ). dayNumber x (start i)) same, day-rises s (start i) d from),
+        omega (arith, span .2, ap (λ (x : ℕ). dayNumber x (end i)) same, day-rises s d (end i) until),
+      )
 
   pub days-apart : Apart firsts lasts count → (i j d : ℕ) → i < j → j < n → f i ≡ true → f j ≡ true → site i ≡ site j
       → (start i ≤ d) × (d ≤ end i) → (start j ≤ d) × (d ≤ end j) → ⊥
@@ -114,6 +126,6 @@ module _ (f : ℕ → Bool) (site start end : ℕ → ℕ) (firsts lasts : List 
   days-apart apart i j d earlier last holds also same in-first in-second =
       apart (countBelow f i) (countBelow f j) (dayNumber (site j) d)
       (count-less f i j earlier holds)
-      (omega (arith, G .counted, count-less f j n last also))
+      (span-of j last also .0)
       (day-within i (omega arith) holds (site j) d same (in-first .0) (in-first .1))
       (day-within j last also (site j) d refl (in-second .0) (in-second .1))

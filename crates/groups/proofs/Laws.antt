@@ -3,7 +3,7 @@
 --     Tabling, tabling-none, -length, -more, -end    a loop that fills the front of a column with f of each place, and has passed i places
 --     Marked, marked-none, -parent, -more        the nearest record of each type that can be asked for, kept in an array while a loop passes the records
 --     parent-before, parent-type-there, parent-none, parent-is     what the record is that a record hangs under
---     parents-length, parent-at, picked-length, picked-at, places-length, place-at, ones-length, one-at    the four columns at a place
+--     parents-length, parent-at, picked-length, picked-at, picked-small, places-length, place-at, ones-length, one-at    the four columns at a place
 -- Assumes nothing.
 use mathlib.Core.Path.{_≡_, refl, sym, _∙_, ap, subst}
 use mathlib.Core.Bool.{Bool, true, false, cond}
@@ -159,6 +159,11 @@ module _ (types : List ℕ) (i : ℕ) where
       go (suc m) q = near m q (decLt j m) (decLt m j)
 
 -- ---- the four columns
+-- what is picked, or 0, is no more than what may be picked
+pub picked-small : (b : Bool) {n value : ℕ} → value ≤ n → cond b value 0 ≤ n
+picked-small true h = h
+picked-small false h = omega arith
+
 module _ (types : List ℕ) where
   pub parents-length : length (parentPlaces types) ≡ length types
   parents-length = tabled-length (parentPlace types) (length types) 0

@@ -8,7 +8,7 @@ ghost use lib.ListN.{length, drop};
 ghost use Rattle.groups.specs.Groups.{parentPlaces, picked, places, ones};
 
 // Where the nearest record of a type is kept: the types that can be asked for, 0 to 9, have a place each, and all others share one.
-fn slot(record_type: u64) -> usize
+pub fn slot(record_type: u64) -> usize
     ensures { λ r. ⌜ r ≡ cond (ltb record_type 10) record_type 10 ⌝ }
 {
     if record_type < 10 {

@@ -39,13 +39,13 @@ fn first_by_scan(ids: &[u64]) -> usize
 }
 
 // The first of n places that an earlier place leads, or n.
-fn first_led(leaders: &[usize], n: usize) -> usize
+fn first_led(leaders: &[u16], n: usize) -> usize
     requires { ⌜ n ≤ length (now leaders) ⌝ }
     ensures { λ r. ⌜ r ≡ firstBelow (λ (i : ℕ). ltb (getD (now (leaders .entry)) i 0) i) n ⌝ }
 {
     let mut i: usize = 0;
     while i < n {
-        if leaders[i] < i {
+        if (leaders[i] as usize) < i {
             return i;
         }
         i += 1;
@@ -58,9 +58,9 @@ fn first_by_buckets(ids: &[u64]) -> usize
     requires { ⌜ length (now ids) ≤ 4096 ⌝ }
     ensures { λ r. ⌜ (r ≤ length (now (ids .entry)) → r ≡ firstRepeated (now (ids .entry))) ⌝ }
 {
-    let mut heads = [0usize; 8192];
-    let mut links = [0usize; 4096];
-    let mut leaders = [0usize; 4096];
+    let mut heads = [0u16; 8192];
+    let mut links = [0u16; 4096];
+    let mut leaders = [0u16; 4096];
     if buckets::index(ids, ids.len(), &mut heads, &mut links, &mut leaders, 32) {
         return first_led(&leaders, ids.len());
     }
@@ -130,7 +130,7 @@ pub fn first_repeated(ids: &[u64]) -> usize
 }
 
 // Whether a record's own value is not that of the record at its place, where it has a place.
-fn is_unlike(place: u64, own: u64, theirs: &[u64]) -> bool
+pub fn is_unlike(place: u64, own: u64, theirs: &[u64]) -> bool
     requires { ⌜ place ≤ length (now theirs) ⌝ }
     ensures { λ r. ⌜ r ≡ cond (eqb place 0) false (not (eqb own (at (now (theirs .entry)) (place - 1)))) ⌝ }
 {

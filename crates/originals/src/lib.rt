@@ -1,4 +1,4 @@
-// The original periods of a file, and how many of its first records have none that share a day of a site.
+// The original periods of a file, gathered as spans of numbers, and shown to share no day of a site.
 ghost use mathlib.Core.Path.{_≡_};
 ghost use mathlib.Core.Bool.{true};
 ghost use Prim.Native.Nat.{ℕ, _≤_, _<_};
@@ -21,7 +21,7 @@ pub fn is_original(types: &[u64], cancels: &[u64], i: usize) -> bool
 }
 
 // Puts the first and the last days of the original periods among the first n records into `firsts` and `lasts`, in file order, and answers their number.
-fn gather(
+pub fn gather(
     types: &[u64],
     sites: &[u64],
     starts: &[u64],
@@ -49,7 +49,7 @@ fn gather(
     count
 }
 
-// Whether no two original periods among the first n records are shown to share a day of a site. Where the answer is false, nothing is known. The four columns are lent to hold the periods and their order.
+// As `none_shared`, with four columns lent to hold the periods and their order.
 fn none_shared_in(
     types: &[u64],
     sites: &[u64],
@@ -132,7 +132,8 @@ fn none_shared_of_many(
     )
 }
 
-fn none_shared(
+// Whether no two original periods among the first n records are shown to share a day of a site. Where the answer is false, nothing is known.
+pub fn none_shared(
     types: &[u64],
     sites: &[u64],
     starts: &[u64],
@@ -148,36 +149,4 @@ fn none_shared(
         return none_shared_of_few(types, sites, starts, ends, cancels, n);
     }
     none_shared_of_many(types, sites, starts, ends, cancels, n)
-}
-
-// How many of the first records are shown to have no two original periods that share a day of a site: all, in the usual file of up to 4,096.
-// Otherwise the number is found by halves, so that what is left to compare begins where two periods share a day.
-pub fn none_shared_until(
-    types: &[u64],
-    sites: &[u64],
-    starts: &[u64],
-    ends: &[u64],
-    cancels: &[u64],
-) -> usize
-    requires { ⌜ (length (now sites) ≡ length (now types)) × (length (now starts) ≡ length (now types)) × (length (now ends) ≡ length (now types)) × (length (now cancels) ≡ length (now types)) ⌝ }
-    ensures { λ r. ⌜ (r ≤ length (now (types .entry))) × NoneShared (now (types .entry)) (now (sites .entry)) (now (starts .entry)) (now (ends .entry)) (now (cancels .entry)) r ⌝ }
-{
-    let n = types.len();
-    if 4096 < n {
-        return 0;
-    }
-    if none_shared(types, sites, starts, ends, cancels, n) {
-        return n;
-    }
-    let mut shown: usize = 0;
-    let mut refused: usize = n;
-    while shown + 1 < refused {
-        let middle = shown + (refused - shown) / 2;
-        if none_shared(types, sites, starts, ends, cancels, middle) {
-            shown = middle;
-        } else {
-            refused = middle;
-        }
-    }
-    shown
 }

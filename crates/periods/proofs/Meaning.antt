@@ -16,6 +16,7 @@ use Rattle.lists.specs.Below.{firstBelow, someBelow}
 use Rattle.lists.proofs.Below.{none-below, none-is-end, some-holds, some-is}
 use Rattle.types.specs.Types.{SH, TH}
 use Rattle.groups.specs.Groups.{at}
+use Rattle.chosen_periods.specs.Chosen.{Chooses as ChosenIn}
 use Rattle.periods.specs.Periods.{isReversed, firstReversed, PeriodColumns, isOriginal, chooses, shareDay, overlaps, firstOverlapping}
 use Rattle.periods.proofs.Conditions.{no-header, header-of-another-site, header-without-start, header-without-end, starts-before-header, ends-after-header, chooses-by-end, different-sites, first-no-original, second-no-original, no-shared-day, overlaps-by-header}
 
@@ -76,13 +77,8 @@ pub record Original (c : PeriodColumns) (i : ℕ) : Type 0 where
   pub no-cancel : at (c .cancels) i ≡ 0
 
 -- the record at h is an SH of the site of the period at i, with both dates, and the period lies within them
-pub record Chooses (c : PeriodColumns) (h i : ℕ) : Type 0 where
-  pub site-header : at (c .types) h ≡ SH
-  pub same-site : at (c .sites) h ≡ at (c .sites) i
-  pub start-filled : at (c .starts) h ≡ 0 → ⊥
-  pub end-filled : at (c .ends) h ≡ 0 → ⊥
-  pub from : at (c .starts) h ≤ at (c .starts) i
-  pub to : at (c .ends) i ≤ at (c .ends) h
+abbrev pub Chooses : PeriodColumns → ℕ → ℕ → Type 0
+Chooses c = ChosenIn (c .types) (c .sites) (c .starts) (c .ends)
 
 -- the period at i has the day d, both ends in
 abbrev pub HasDay : PeriodColumns → ℕ → ℕ → Type 0

@@ -50,11 +50,11 @@ fn index_keys(
     used: usize,
     keys: &mut [u64],
     states: &mut [u8],
-    heads: &mut [usize],
-    links: &mut [usize],
+    heads: &mut [u16],
+    links: &mut [u16],
 ) -> bool
     requires { ⌜ (used * 9 ≤ length (now words)) × (used * 2 ≤ length (now amounts)) × (used ≤ length (now keys)) × (used ≤ length (now states)) ⌝ }
-    requires { ⌜ (0 < length (now heads)) × (length (now heads) ≤ 65536) × (used ≤ length (now links)) × ((b : ℕ) → getD (now heads) b 0 ≡ 0) ⌝ }
+    requires { ⌜ (0 < length (now heads)) × (length (now heads) ≤ 65536) × (used ≤ length (now links)) × (used ≤ 8192) × ((b : ℕ) → getD (now heads) b 0 ≡ 0) ⌝ }
     ensures { λ r. ⌜ (let es = entriesOf (now (words .entry)) (now (amounts .entry)) used in r ≡ true → Keyed es used (now (keys .exit)) × Copied (stateAt es) used (now (states .exit)) × Indexed (now (keys .exit)) used (now (heads .exit)) (now (links .exit)) × KeysDiffer es used) ⌝ }
 {
     if !copy_keys(words, amounts, used, keys, states) {
@@ -69,8 +69,8 @@ fn cancelled_place(
     amounts: &[i64],
     used: usize,
     keys: &[u64],
-    heads: &[usize],
-    links: &[usize],
+    heads: &[u16],
+    links: &[u16],
     i: usize,
     cancel: Entry,
 ) -> usize
@@ -99,8 +99,8 @@ fn mark_cancelled(
     amounts: &[i64],
     used: usize,
     keys: &[u64],
-    heads: &[usize],
-    links: &[usize],
+    heads: &[u16],
+    links: &[u16],
     states: &[u8],
     marks: &mut [usize],
 ) -> bool
@@ -147,8 +147,8 @@ fn pairs_off(
     amounts: &[i64],
     used: usize,
     keys: &[u64],
-    heads: &[usize],
-    links: &[usize],
+    heads: &[u16],
+    links: &[u16],
     states: &[u8],
     marks: &mut [usize],
 ) -> bool
@@ -163,7 +163,7 @@ fn pairs_off(
     cancelled_are_marked(states, used, marks)
 }
 
-// Whether the passes show that the entries in use make a sound ledger. The columns are lent to hold what a pass leaves to the next: in the end the keys, the links and the marks make room for the live periods and their order.
+// Whether the passes show that the entries in use make a sound ledger. The columns are lent to hold what a pass leaves to the next: in the end the keys and the marks make room for the live periods and their order.
 fn is_certified_in(
     words: &[u64],
     amounts: &[i64],
@@ -171,12 +171,13 @@ fn is_certified_in(
     keys: &mut [u64],
     lasts: &mut [u64],
     states: &mut [u8],
-    heads: &mut [usize],
-    links: &mut [usize],
+    heads: &mut [u16],
+    links: &mut [u16],
     marks: &mut [usize],
+    order: &mut [usize],
 ) -> bool
     requires { ⌜ (used * 9 ≤ length (now words)) × (used * 2 ≤ length (now amounts)) × (used ≤ 8192) ⌝ }
-    requires { ⌜ (used ≤ length (now keys)) × (length (now lasts) ≡ length (now keys)) × (used ≤ length (now states)) × (0 < length (now heads)) × (length (now heads) ≤ 65536) × (used ≤ length (now links)) × (used ≤ length (now marks)) ⌝ }
+    requires { ⌜ (used ≤ length (now keys)) × (length (now lasts) ≡ length (now keys)) × (used ≤ length (now states)) × (0 < length (now heads)) × (length (now heads) ≤ 65536) × (used ≤ length (now links)) × (used ≤ length (now marks)) × (used ≤ length (now order)) ⌝ }
     requires { ⌜ ((b : ℕ) → getD (now heads) b 0 ≡ 0) × ((j : ℕ) → getD (now marks) j 0 ≡ 0) ⌝ }
     ensures { λ r. ⌜ (r ≡ true → Sound (entriesOf (now (words .entry)) (now (amounts .entry)) used) used) ⌝ }
 {
@@ -186,7 +187,7 @@ fn is_certified_in(
     if !pairs_off(words, amounts, used, keys, heads, links, states, marks) {
         return false;
     }
-    live_periods::are_apart(words, amounts, used, keys, lasts, links, marks)
+    live_periods::are_apart(words, amounts, used, keys, lasts, order, marks)
 }
 
 // For up to 1,024 entries: larger columns take longer to make than so few entries to read.
@@ -197,9 +198,10 @@ fn is_certified_of_few(words: &[u64], amounts: &[i64], used: usize) -> bool
     let mut keys = [0u64; 1024];
     let mut lasts = [0u64; 1024];
     let mut states = [0u8; 1024];
-    let mut heads = [0usize; 8192];
-    let mut links = [0usize; 1024];
+    let mut heads = [0u16; 8192];
+    let mut links = [0u16; 1024];
     let mut marks = [0usize; 1024];
+    let mut order = [0usize; 1024];
     is_certified_in(
         words,
         amounts,
@@ -210,6 +212,7 @@ fn is_certified_of_few(words: &[u64], amounts: &[i64], used: usize) -> bool
         &mut heads,
         &mut links,
         &mut marks,
+        &mut order,
     )
 }
 
@@ -221,9 +224,10 @@ fn is_certified_of_many(words: &[u64], amounts: &[i64], used: usize) -> bool
     let mut keys = [0u64; 8192];
     let mut lasts = [0u64; 8192];
     let mut states = [0u8; 8192];
-    let mut heads = [0usize; 16384];
-    let mut links = [0usize; 8192];
+    let mut heads = [0u16; 16384];
+    let mut links = [0u16; 8192];
     let mut marks = [0usize; 8192];
+    let mut order = [0usize; 8192];
     is_certified_in(
         words,
         amounts,
@@ -234,6 +238,7 @@ fn is_certified_of_many(words: &[u64], amounts: &[i64], used: usize) -> bool
         &mut heads,
         &mut links,
         &mut marks,
+        &mut order,
     )
 }
 

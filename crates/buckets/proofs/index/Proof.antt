@@ -68,6 +68,9 @@ mul-links c = search needs
 slice-write-links : tie.Need-slice-write-links Inv-loop μ-loop
 slice-write-links c = search needs
 
+cast-leaders : tie.Need-cast-leaders Inv-loop μ-loop
+cast-leaders c = search needs
+
 mul-leaders : tie.Need-mul-leaders Inv-loop μ-loop
 mul-leaders c = search needs
 
@@ -136,6 +139,7 @@ index-spec =
     slice-write-heads
     mul-links
     slice-write-links
+    cast-leaders
     mul-leaders
     slice-write-leaders
     add-i

@@ -52,6 +52,9 @@ returns c = λ e. let z : _≡_ {A = ℕ} 0 1 = cc in absurd (omega arith)
 add-heads : tie.Need-add-heads Inv-loop μ-loop
 add-heads c = search needs
 
+cast-heads : tie.Need-cast-heads Inv-loop μ-loop
+cast-heads c = search needs
+
 mul-heads : tie.Need-mul-heads Inv-loop μ-loop
 mul-heads c = search needs
 
@@ -117,6 +120,7 @@ index-distinct-spec =
     same-length-2
     returns
     add-heads
+    cast-heads
     mul-heads
     slice-write-heads
     mul-links

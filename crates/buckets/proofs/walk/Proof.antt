@@ -26,6 +26,9 @@ mul-held c = search needs
 shared-slice-read-held : tie.Need-shared-slice-read-held Inv-loop μ-loop
 shared-slice-read-held c = search needs
 
+cast-held : tie.Need-cast-held Inv-loop μ-loop
+cast-held c = omega (arith, c .shared-slice-known4 .given (c .before .bucket .result))
+
 loop-holds : tie.Need-loop-holds Inv-loop μ-loop
 loop-holds c =
     let s = c .before .before .before .before .before in
@@ -60,6 +63,9 @@ mul-held-2 c = search needs
 shared-slice-read-held-2 : tie.Need-shared-slice-read-held-2 Inv-loop μ-loop
 shared-slice-read-held-2 c = search needs
 
+cast-held-2 : tie.Need-cast-held-2 Inv-loop μ-loop
+cast-held-2 c = omega (arith, c .shared-slice-known6 .given (c .before .before .before .before .before .loop .held - 1))
+
 add-steps : tie.Need-add-steps Inv-loop μ-loop
 add-steps c = search needs
 
@@ -87,6 +93,7 @@ walk-spec =
     bucket-requires
     mul-held
     shared-slice-read-held
+    cast-held
     loop-holds
     returns
     sub-if2
@@ -97,6 +104,7 @@ walk-spec =
     sub-held
     mul-held-2
     shared-slice-read-held-2
+    cast-held-2
     add-steps
     loop-less
     loop-again

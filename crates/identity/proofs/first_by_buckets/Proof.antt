@@ -21,7 +21,7 @@ slice-aggregate-index-3 : tie.Need-slice-aggregate-index-3
 slice-aggregate-index-3 c = search needs
 
 index-requires : tie.Need-index-requires
-index-requires c κs = ((search needs, omega (arith, length-replicate {A = ℕ} 4096 0), omega (arith, length-replicate {A = ℕ} 4096 0), omega (arith, length-replicate {A = ℕ} 8192 0), omega (arith, length-replicate {A = ℕ} 8192 0)), zeros 8192)
+index-requires c κs = ((search needs, omega (arith, length-replicate {A = ℕ} 4096 0), omega (arith, length-replicate {A = ℕ} 4096 0), omega (arith, length-replicate {A = ℕ} 8192 0), omega (arith, length-replicate {A = ℕ} 8192 0), omega arith), zeros 8192)
 
 slice-aggregate-first-led : tie.Need-slice-aggregate-first-led
 slice-aggregate-first-led c = search needs

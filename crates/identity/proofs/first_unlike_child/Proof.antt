@@ -1,16 +1,17 @@
 -- `identity::first_unlike_child` meets its contract. The loop's invariant: the search for a record unlike the one that it hangs under resumes at `i`.
 -- Assumes nothing.
-use Prim.Native.Nat.{ℕ, _-_, _≤_, _<_}
+use Prim.Native.Nat.{ℕ, _-_, _≤_}
 use mathlib.Core.Path.{_≡_, sym, _∙_, ap}
 use mathlib.Core.List.{List}
-use mathlib.Core.Bool.{Bool, true, false, cond, not, _&&_}
+use mathlib.Core.Bool.{Bool, _&&_}
 use lib.ListN.{length}
-use lib.Dec.{eqb, leb}
+use lib.Dec.{leb}
 use Rattle.lists.proofs.Below.{Searched, searched-none, searched-more, searched-here, searched-end}
 use Rattle.lists.specs.Below.{firstBelow}
-use Rattle.groups.proofs.Laws.{picked-length, picked-at}
-use Rattle.groups.specs.Groups.{at, picked, pickedAt}
+use Rattle.groups.proofs.Laws.{picked-length, picked-small}
+use Rattle.groups.specs.Groups.{at, picked}
 use Rattle.identity.specs.Identity.{unlike, firstUnlike}
+use Rattle.identity.proofs.Places.{picked-unlike}
 use borrow.Author.Needs.{needs}
 use native.Mathlib.Omega.{arith}
 use Rattle.identity.proofs.first_unlike_child.Statement.{statement}
@@ -24,17 +25,6 @@ whole : (types parents : List ℕ) (low high : ℕ) (values : List ℕ) (r : ℕ
     → r ≡ firstUnlike (picked types parents low high) values values
 unfolding firstUnlike
 whole types parents low high values r e = sym (ap (firstBelow (unlikeChild types parents low high values)) (picked-length types parents low high) ∙ e)
-
--- the place that is chosen for a record is the one picked for it
-child-at : (types parents : List ℕ) (low high : ℕ) (values : List ℕ) (i place : ℕ) → i < length types → place ≡ pickedAt types parents low high i
-    → cond (eqb place 0) false (not (eqb (at values i) (at values (place - 1)))) ≡ unlikeChild types parents low high values i
-unfolding unlike
-child-at types parents low high values i place h e =
-    ap (λ (k : ℕ). cond (eqb k 0) false (not (eqb (at values i) (at values (k - 1))))) (e ∙ sym (picked-at types parents low high i h))
-
-chosen-small : (b : Bool) {n m : ℕ} → m ≤ n → cond b m 0 ≤ n
-chosen-small true h = h
-chosen-small false h = omega arith
 
 abbrev Inv-loop : tie.InvT-loop
 Inv-loop types parents low high values i₀ i = (i ≤ length types) × Searched (unlikeChild types parents low high values) (length types) i
@@ -70,13 +60,13 @@ is-unlike-requires : tie.Need-is-unlike-requires Inv-loop μ-loop
 is-unlike-requires c κs =
     let a = c .before .before .before .before .before .before .before .before .before .args in
     let i = c .before .before .before .before .before .loop .i in
-    omega (arith, c .before .chosen .ensures, chosen-small (leb (a .low) (at (a .types .now) i) && leb (at (a .types .now) i) (a .high)) (c .before .before .before .before .before .before .before .before .before .pre .2 i (omega arith)))
+    omega (arith, c .before .chosen .ensures, picked-small (leb (a .low) (at (a .types .now) i) && leb (at (a .types .now) i) (a .high)) (c .before .before .before .before .before .before .before .before .before .pre .2 i (omega arith)))
 
 -- what the record at i answers is what the search asks of it
 answers : (c : tie.After-is-unlike Inv-loop μ-loop) → c .is-unlike .result ≡ unlikeChild (c .before .before .before .before .before .before .before .before .before .before .args .types .now) (c .before .before .before .before .before .before .before .before .before .before .args .parents .now) (c .before .before .before .before .before .before .before .before .before .before .args .low) (c .before .before .before .before .before .before .before .before .before .before .args .high) (c .before .before .before .before .before .before .before .before .before .before .args .values .now) (c .before .before .before .before .before .before .loop .i)
 answers c =
     let a = c .before .before .before .before .before .before .before .before .before .before .args in
-    c .is-unlike .ensures ∙ child-at (a .types .now) (a .parents .now) (a .low) (a .high) (a .values .now) (c .before .before .before .before .before .before .loop .i) (c .before .before .chosen .result) (omega arith) (c .before .before .chosen .ensures)
+    c .is-unlike .ensures ∙ picked-unlike (a .values .now) (a .values .now) (c .before .before .before .before .before .before .loop .i) (a .types .now) (a .parents .now) (a .low) (a .high) (c .before .before .chosen .result) (omega arith) (c .before .before .chosen .ensures)
 
 returns : tie.Need-returns Inv-loop μ-loop
 returns c =

@@ -32,7 +32,7 @@ returns c = λ e. let z : _≡_ {A = ℕ} 0 1 = cc in absurd (omega arith)
 
 pairs-off-requires : tie.Need-pairs-off-requires
 pairs-off-requires c κs =
-    let s = c .before .before .before .before .before .before .before .before .before .before .before .before .before .before .before .before .before .before .before .before .before .before .before .before .before .before in
+    let s = c .before .before .before .before .before .before .before .before .before .before .before .before .before .before .before .before .before .before .before .before .before .before .before .before .before .before .before in
     let indexed = c .before .before .before .before .before .before .before .before .before .before .before .before .before .before .index-keys .ensures (not-false _ (c .before .before .before .before .before .if1 .left)) in
     ((s .pre .0 .0, s .pre .0 .1, search needs, search needs), ((indexed .2, indexed .1, s .pre .1 .1 .1), indexed .3))
 
@@ -56,8 +56,9 @@ returns-2 c = λ e. let z : _≡_ {A = ℕ} 0 1 = cc in absurd (omega arith)
 
 are-apart-requires : tie.Need-are-apart-requires
 are-apart-requires c κs =
-    let s = c .before .before .before .before .before .before .before .before .before .before .before .before .before .before .before .before .before .before .before .before .before .before .before .before .before .before .before .before .before .before .before .before .before .before in
-    ((s .pre .0 .0, s .pre .0 .1), (search needs, search needs, search needs, search needs))
+    let s = c .before .before .before .before .before .before .before .before .before .before .before .before .before .before .before .before .before .before .before .before .before .before .before .before .before .before .before .before .before .before .before .before .before .before .before in
+    let keyed = c .before .before .before .before .before .before .before .before .before .before .before .before .before .before .before .before .before .before .before .before .before .before .index-keys .kept .1 .1 .1 .0 in
+    ((s .pre .0 .0, s .pre .0 .1), (omega (arith, s .pre .1 .0, keyed), omega (arith, s .pre .1 .0, keyed), s .pre .1 .0 .7, search needs))
 
 same-length-10 : tie.Need-same-length-10
 same-length-10 c = search needs
@@ -77,9 +78,12 @@ same-length-14 c = search needs
 same-length-15 : tie.Need-same-length-15
 same-length-15 c = search needs
 
+same-length-16 : tie.Need-same-length-16
+same-length-16 c = search needs
+
 returns-3 : tie.Need-returns-3
 returns-3 c =
-    let s = c .before .before .before .before .before .before .before .before .before .before .before .before .before .before .before .before .before .before .before .before .before .before .before .before .before .before .before .before .before .before .before .before .before .before .before .before .before .before .before .before .before .before .before in
+    let s = c .before .before .before .before .before .before .before .before .before .before .before .before .before .before .before .before .before .before .before .before .before .before .before .before .before .before .before .before .before .before .before .before .before .before .before .before .before .before .before .before .before .before .before .before in
     let a = s .args in
     let indexed = c .before .before .before .before .before .before .before .before .before .before .before .before .before .before .before .before .before .before .before .before .before .before .before .before .before .before .before .before .before .before .before .index-keys .ensures (not-false _ (c .before .before .before .before .before .before .before .before .before .before .before .before .before .before .before .before .before .before .before .before .before .before .if1 .left)) in
     let pairs = c .before .before .before .before .before .before .before .before .before .before .before .before .before .before .before .before .pairs-off .ensures (not-false _ (c .before .before .before .before .before .before .before .before .before .before .before .before .before .if2 .left)) in
@@ -109,4 +113,5 @@ is-certified-in-spec =
     same-length-13
     same-length-14
     same-length-15
+    same-length-16
     returns-3)

@@ -27,12 +27,15 @@ slice-aggregate-is-certified-in-5 c = search needs
 slice-aggregate-is-certified-in-6 : tie.Need-slice-aggregate-is-certified-in-6
 slice-aggregate-is-certified-in-6 c = search needs
 
+slice-aggregate-is-certified-in-7 : tie.Need-slice-aggregate-is-certified-in-7
+slice-aggregate-is-certified-in-7 c = search needs
+
 is-certified-in-requires : tie.Need-is-certified-in-requires
 is-certified-in-requires c κs =
-    let s = c .before .before .before .before .before .before .before in
+    let s = c .before .before .before .before .before .before .before .before in
     let long = length-replicate {A = ℕ} 8192 0 in
     let buckets = length-replicate {A = ℕ} 16384 0 in
-    (s .pre, ((omega (arith, s .pre, long), refl, omega (arith, s .pre, long), omega (arith, buckets), omega (arith, buckets), omega (arith, s .pre, long), omega (arith, s .pre, long)), (zeros 16384, zeros 8192)))
+    (s .pre, ((omega (arith, s .pre, long), refl, omega (arith, s .pre, long), omega (arith, buckets), omega (arith, buckets), omega (arith, s .pre, long), omega (arith, s .pre, long), omega (arith, s .pre, long)), (zeros 16384, zeros 8192)))
 
 returns : tie.Need-returns
 returns c = search needs
@@ -47,5 +50,6 @@ is-certified-of-many-spec =
     slice-aggregate-is-certified-in-4
     slice-aggregate-is-certified-in-5
     slice-aggregate-is-certified-in-6
+    slice-aggregate-is-certified-in-7
     is-certified-in-requires
     returns)
