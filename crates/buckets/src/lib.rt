@@ -78,11 +78,11 @@ pub fn index(
     true
 }
 
-// Puts the first n places into their buckets. False where a value repeats, and where a chain grows past 32 steps.
-pub fn index_distinct(values: &[u64], n: usize, heads: &mut [u16], links: &mut [u16]) -> bool
+// Puts the first n places into their buckets, and answers how many it has put there: it stops where a value repeats, and where a chain grows past 32 steps.
+pub fn index_distinct(values: &[u64], n: usize, heads: &mut [u16], links: &mut [u16]) -> usize
     requires { ⌜ (n ≤ length (now values)) × (n ≤ length (now links)) × (0 < length (now heads)) × (length (now heads) ≤ 65536) × (n ≤ 65535) ⌝ }
     requires { ⌜ ((b : ℕ) → getD (now heads) b 0 ≡ 0) ⌝ }
-    ensures { λ r. ⌜ (r ≡ true → Indexed (now (values .entry)) n (now (heads .exit)) (now (links .exit)) × Distinct (now (values .entry)) n) ⌝ }
+    ensures { λ r. ⌜ (r ≡ n → Indexed (now (values .entry)) n (now (heads .exit)) (now (links .exit)) × Distinct (now (values .entry)) n) ⌝ }
 {
     let mut i: usize = 0;
     while i < n {
@@ -90,13 +90,13 @@ pub fn index_distinct(values: &[u64], n: usize, heads: &mut [u16], links: &mut [
         let b = bucket(value, heads.len());
         let latest = heads[b];
         if walk(values, i, heads, links, value, 32) != i {
-            return false;
+            return i;
         }
         heads[b] = (i + 1) as u16;
         links[i] = latest;
         i += 1;
     }
-    true
+    n
 }
 
 // The first of the first n places that has a value, or n.

@@ -4,9 +4,9 @@ ghost use Prim.Native.Nat.{_≤_};
 ghost use lib.ListN.{length, getD};
 ghost use Rattle.lists.specs.Bytes.{sameBytes};
 ghost use Rattle.lists.specs.Written.{written};
-ghost use Rattle.text.specs.Text.{linesOf, part, Placed};
+ghost use Rattle.text.specs.Text.{part};
 ghost use Rattle.records.specs.Records.{field, fieldsAt, FieldsPlaced};
-ghost use Rattle.format.specs.Format.{miscoded, firstMiscoded};
+ghost use Rattle.format.specs.Format.{miscoded};
 ghost use Rattle.coded_fields.specs.Steps.{isNeither, wrongCode, unitIf};
 
 // The field of each type, counted from 1, that has each code of test 7; 0 where the type has none.
@@ -109,7 +109,8 @@ pub fn has_wrong_code<'a>(
     )
 }
 
-fn is_miscoded(file: &[u8], a: usize, e: usize, electricity: bool) -> bool
+// Whether the line from a to e fails test 7.
+pub fn is_miscoded(file: &[u8], a: usize, e: usize, electricity: bool) -> bool
     requires { ⌜ (a ≤ e) × (e ≤ length (now file)) ⌝ }
     ensures { λ r. ⌜ r ≡ miscoded (unitIf electricity) (part (now (file .entry)) a e) ⌝ }
 {
@@ -117,25 +118,4 @@ fn is_miscoded(file: &[u8], a: usize, e: usize, electricity: bool) -> bool
     let starts = r.starts;
     let ends = r.ends;
     has_wrong_code(file, &starts, &ends, r.count, r.record_type, electricity)
-}
-
-// Test 7: the place of the first record that fails, or the number of records. The commodity is that of the first line.
-pub fn first_miscoded(file: &[u8], starts: &[usize], ends: &[usize], n: usize) -> usize
-    requires { ⌜ Placed (now file) n (now starts) (now ends) (linesOf (now file)) ⌝ }
-    ensures { λ r. ⌜ r ≡ firstMiscoded (linesOf (now (file .entry))) ⌝ }
-{
-    if n == 0 {
-        return 0;
-    }
-    let electricity = is_electric(file, starts[0], ends[0]);
-    let mut i: usize = 0;
-    while i < n {
-        let a = starts[i];
-        let e = ends[i];
-        if is_miscoded(file, a, e, electricity) {
-            return i;
-        }
-        i += 1;
-    }
-    i
 }

@@ -3,9 +3,9 @@ ghost use mathlib.Core.Path.{_≡_};
 ghost use Prim.Native.Nat.{_*_, _≤_, _<_};
 ghost use lib.ListN.{length};
 ghost use Rattle.calendar.specs.Calendar.{firstDays};
-ghost use Rattle.text.specs.Text.{linesOf, part, Placed};
+ghost use Rattle.text.specs.Text.{part};
 ghost use Rattle.records.specs.Records.{fieldsAt, FieldsPlaced};
-ghost use Rattle.columns.specs.Columns.{held, columnAt, Room, ColumnsRead};
+ghost use Rattle.columns.specs.Columns.{held, columnAt};
 ghost use Rattle.columns.specs.Rows.{fieldRow, RowAmong, RowRead, RowStored};
 use calendar::Day;
 use digits::Number;
@@ -134,7 +134,7 @@ pub fn row_of<'a>(
 }
 
 // The numbers and amounts of the line from a to e, whose record is read once.
-fn row_at(table: &[u64], file: &[u8], a: usize, e: usize) -> Row
+pub fn row_at(table: &[u64], file: &[u8], a: usize, e: usize) -> Row
     requires { ⌜ now table ≡ firstDays ⌝ }
     requires { ⌜ (a ≤ e) × (e ≤ length (now file)) ⌝ }
     ensures { λ r. ⌜ RowRead (part (now (file .entry)) a e) r ⌝ }
@@ -154,37 +154,6 @@ pub fn store_row(words: &mut [u64], room: usize, i: usize, numbers: [u64; 8])
     while c < 8 {
         words[c * room + i] = numbers[c];
         c += 1;
-    }
-}
-
-// Reads each of n lines once, into the columns.
-pub fn read_columns(
-    file: &[u8],
-    starts: &[usize],
-    ends: &[usize],
-    n: usize,
-    words: &mut [u64],
-    charges: &mut [i64],
-    usages: &mut [i64],
-)
-    requires { ⌜ Placed (now file) n (now starts) (now ends) (linesOf (now file)) ⌝ }
-    requires { ⌜ Room n (now words) (now charges) (now usages) × (length (now charges) ≤ 4096) ⌝ }
-    ensures { λ _. ⌜ ColumnsRead (linesOf (now (file .entry))) (now (words .exit)) (now (charges .exit)) (now (usages .exit)) ⌝ }
-{
-    let table = calendar::first_days();
-    let room = charges.len();
-    let mut i: usize = 0;
-    while i < n {
-        let a = starts[i];
-        let e = ends[i];
-        let row = row_at(&table, file, a, e);
-        let numbers = row.numbers;
-        let charge = row.charge;
-        let usage = row.usage;
-        store_row(words, room, i, numbers);
-        charges[i] = charge;
-        usages[i] = usage;
-        i += 1;
     }
 }
 

@@ -22,17 +22,17 @@ pub fn rises(values: &[u64], n: usize) -> bool
 }
 
 // Whether the values rise strictly along `order`.
-fn rises_along(values: &[u64], order: &[usize], n: usize) -> bool
+fn rises_along(values: &[u64], order: &[u16], n: usize) -> bool
     requires { ⌜ (n ≤ length (now values)) × (n ≤ length (now order)) ⌝ }
     ensures { λ r. ⌜ (r ≡ true → Ordered (Less (now (values .entry))) (at (now (order .entry))) n) ⌝ }
 {
     let mut i: usize = 1;
     while i < n {
-        let a = order[i - 1];
+        let a = order[i - 1] as usize;
         if n <= a {
             return false;
         }
-        let b = order[i];
+        let b = order[i] as usize;
         if n <= b {
             return false;
         }
@@ -45,8 +45,8 @@ fn rises_along(values: &[u64], order: &[usize], n: usize) -> bool
 }
 
 // Whether a sort shows that no two of the first n values are equal. What `order` and `ranks` hold at entry is of no matter.
-pub fn differ(values: &[u64], n: usize, order: &mut [usize], ranks: &mut [usize]) -> bool
-    requires { ⌜ (n ≤ length (now values)) × (n ≤ length (now order)) × (n ≤ length (now ranks)) ⌝ }
+pub fn differ(values: &[u64], n: usize, order: &mut [u16], ranks: &mut [u16]) -> bool
+    requires { ⌜ (n ≤ length (now values)) × (n ≤ length (now order)) × (n ≤ length (now ranks)) × (n ≤ 65535) ⌝ }
     ensures { λ r. ⌜ (r ≡ true → Different (now (values .entry)) n) ⌝ }
 {
     sorting::sort_places(values, n, order, ranks);
@@ -58,15 +58,15 @@ pub fn differ(values: &[u64], n: usize, order: &mut [usize], ranks: &mut [usize]
 }
 
 // The least place that stands just after one with its value in the order that `differ` left, or n. The contract claims no more.
-pub fn guess(values: &[u64], n: usize, order: &[usize]) -> usize
+pub fn guess(values: &[u64], n: usize, order: &[u16]) -> usize
     requires { ⌜ (n ≤ length (now values)) × (n ≤ length (now order)) ⌝ }
     ensures { λ r. ⌜ r ≤ n ⌝ }
 {
     let mut least = n;
     let mut i: usize = 1;
     while i < n {
-        let a = order[i - 1];
-        let b = order[i];
+        let a = order[i - 1] as usize;
+        let b = order[i] as usize;
         if a < n {
             if b < least {
                 if values[a] == values[b] {

@@ -1,14 +1,14 @@
 // Tests 3 and 5: each field fits its type, and is filled where it must be.
-// Each answers the place of the first record that fails, or the number of records.
+// Each answers the place of the first record that fails, or the number of records, of the lines that stand at the first n places.
 ghost use mathlib.Core.Path.{_≡_};
-ghost use Rattle.text.specs.Text.{linesOf, Placed};
+ghost use Rattle.text.specs.Text.{placedLines, LinesPlaced};
 ghost use Rattle.format.specs.Format.{firstUnfit, firstUnfilled};
 ghost use Rattle.field_tests.specs.Steps.{misfilled, unfilledAt};
 
 // Test 3: record by record and field by field, and stops at the first that fails.
 pub fn first_unfit(file: &[u8], starts: &[usize], ends: &[usize], n: usize) -> usize
-    requires { ⌜ Placed (now file) n (now starts) (now ends) (linesOf (now file)) ⌝ }
-    ensures { λ r. ⌜ r ≡ firstUnfit (linesOf (now (file .entry))) ⌝ }
+    requires { ⌜ LinesPlaced (now file) n (now starts) (now ends) ⌝ }
+    ensures { λ r. ⌜ r ≡ firstUnfit (placedLines (now (file .entry)) n (now (starts .entry)) (now (ends .entry))) ⌝ }
 {
     let table = calendar::first_days();
     let mut i: usize = 0;
@@ -57,8 +57,8 @@ fn is_unfilled(record_type: u64, k: usize, len: usize) -> bool
 
 // Test 5: record by record and field by field, and stops at the first that fails.
 pub fn first_unfilled(file: &[u8], starts: &[usize], ends: &[usize], n: usize) -> usize
-    requires { ⌜ Placed (now file) n (now starts) (now ends) (linesOf (now file)) ⌝ }
-    ensures { λ r. ⌜ r ≡ firstUnfilled (linesOf (now (file .entry))) ⌝ }
+    requires { ⌜ LinesPlaced (now file) n (now starts) (now ends) ⌝ }
+    ensures { λ r. ⌜ r ≡ firstUnfilled (placedLines (now (file .entry)) n (now (starts .entry)) (now (ends .entry))) ⌝ }
 {
     let mut i: usize = 0;
     'records: while i < n {

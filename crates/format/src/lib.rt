@@ -1,12 +1,11 @@
-// Tests 2 and 4: the format of each line, and the order of their types.
-// Each answers the place of the first record that fails, or the number of records.
+// Tests 2 and 4: the format of a line, and the order of the lines' types.
 ghost use mathlib.Core.Path.{_≡_};
 ghost use mathlib.Core.Bool.{not};
 ghost use Prim.Native.Nat.{_≤_, _<_};
 ghost use lib.ListN.{length, getD};
 ghost use Rattle.lists.specs.Below.{someBelow};
-ghost use Rattle.text.specs.Text.{linesOf, part, Placed};
-ghost use Rattle.format.specs.Format.{isPrintable, unformatted, firstUnformatted, misplaced, firstMisplaced};
+ghost use Rattle.text.specs.Text.{part};
+ghost use Rattle.format.specs.Format.{isPrintable, unformatted, misplaced, firstMisplaced};
 
 // Whether a byte of s is not 32 to 126, one byte after the other.
 fn has_unprintable_byte(s: &[u8]) -> bool
@@ -64,7 +63,8 @@ pub fn has_unprintable(s: &[u8]) -> bool
     block_has_unprintable(&s[n - 32..])
 }
 
-fn is_unformatted(file: &[u8], a: usize, e: usize) -> bool
+// Whether the line from a to e fails test 2.
+pub fn is_unformatted(file: &[u8], a: usize, e: usize) -> bool
     requires { ⌜ (a ≤ e) × (e ≤ length (now file)) ⌝ }
     ensures { λ r. ⌜ r ≡ unformatted (part (now (file .entry)) a e) ⌝ }
 {
@@ -78,23 +78,6 @@ fn is_unformatted(file: &[u8], a: usize, e: usize) -> bool
         return true;
     }
     count != tables::field_count(record_type)
-}
-
-// Test 2.
-pub fn first_unformatted(file: &[u8], starts: &[usize], ends: &[usize], n: usize) -> usize
-    requires { ⌜ Placed (now file) n (now starts) (now ends) (linesOf (now file)) ⌝ }
-    ensures { λ r. ⌜ r ≡ firstUnformatted (linesOf (now (file .entry))) ⌝ }
-{
-    let mut i: usize = 0;
-    while i < n {
-        let a = starts[i];
-        let e = ends[i];
-        if is_unformatted(file, a, e) {
-            return i;
-        }
-        i += 1;
-    }
-    i
 }
 
 fn is_misplaced(types: &[u64], i: usize) -> bool

@@ -68,8 +68,8 @@ fn first_by_buckets(ids: &[u64]) -> usize
 }
 
 // Whether a sort shows that the record at m is the first whose ID an earlier one has.
-fn shown_repeated(ids: &[u64], m: usize, order: &mut [usize], ranks: &mut [usize]) -> bool
-    requires { ⌜ (m < length (now ids)) × (m ≤ length (now order)) × (m ≤ length (now ranks)) ⌝ }
+fn shown_repeated(ids: &[u64], m: usize, order: &mut [u16], ranks: &mut [u16]) -> bool
+    requires { ⌜ (m < length (now ids)) × (m ≤ length (now order)) × (m ≤ length (now ranks)) × (m ≤ 65535) ⌝ }
     ensures { λ r. ⌜ (r ≡ true → m ≡ firstRepeated (now (ids .entry))) ⌝ }
 {
     if distinct::differ(ids, m, order, ranks) {
@@ -84,8 +84,8 @@ fn first_by_sort(ids: &[u64]) -> usize
     ensures { λ r. ⌜ (r ≤ length (now (ids .entry)) → r ≡ firstRepeated (now (ids .entry))) ⌝ }
 {
     let n = ids.len();
-    let mut order = [0usize; 4096];
-    let mut ranks = [0usize; 4096];
+    let mut order = [0u16; 4096];
+    let mut ranks = [0u16; 4096];
     if distinct::differ(ids, n, &mut order, &mut ranks) {
         return n;
     }

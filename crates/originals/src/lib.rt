@@ -59,11 +59,11 @@ fn none_shared_in(
     n: usize,
     firsts: &mut [u64],
     lasts: &mut [u64],
-    order: &mut [usize],
-    ranks: &mut [usize],
+    order: &mut [u16],
+    ranks: &mut [u16],
 ) -> bool
     requires { ⌜ (n ≤ length (now types)) × (n ≤ length (now sites)) × (n ≤ length (now starts)) × (n ≤ length (now ends)) × (n ≤ length (now cancels)) ⌝ }
-    requires { ⌜ (n ≤ length (now firsts)) × (length (now lasts) ≡ length (now firsts)) × (n ≤ length (now order)) × (n ≤ length (now ranks)) ⌝ }
+    requires { ⌜ (n ≤ length (now firsts)) × (length (now lasts) ≡ length (now firsts)) × (n ≤ length (now order)) × (n ≤ length (now ranks)) × (n ≤ 65535) ⌝ }
     ensures { λ r. ⌜ (r ≡ true → NoneShared (now (types .entry)) (now (sites .entry)) (now (starts .entry)) (now (ends .entry)) (now (cancels .entry)) n) ⌝ }
 {
     let count = gather(types, sites, starts, ends, cancels, n, firsts, lasts);
@@ -85,8 +85,8 @@ fn none_shared_of_few(
 {
     let mut firsts = [0u64; 1024];
     let mut lasts = [0u64; 1024];
-    let mut order = [0usize; 1024];
-    let mut ranks = [0usize; 1024];
+    let mut order = [0u16; 1024];
+    let mut ranks = [0u16; 1024];
     none_shared_in(
         types,
         sites,
@@ -116,8 +116,8 @@ fn none_shared_of_many(
 {
     let mut firsts = [0u64; 4096];
     let mut lasts = [0u64; 4096];
-    let mut order = [0usize; 4096];
-    let mut ranks = [0usize; 4096];
+    let mut order = [0u16; 4096];
+    let mut ranks = [0u16; 4096];
     none_shared_in(
         types,
         sites,

@@ -1,9 +1,2 @@
-pub mod CodeFields
-pub mod Codes
-pub mod FieldKinds
-pub mod Fields
-pub mod Heads
-pub mod Held
+pub mod Firsts
 pub mod Lines
-pub mod Rows
-pub mod Texts

@@ -1,30 +1,35 @@
--- From the fields of a line as they are read to what the tests say of the file's lines.
+-- From the fields of a line as they are read to what the tests say of the line.
 --     line-passes    a line whose fields are read, whose bytes are printable and whose numbers pass test 7 passes
 --     line-read      what is read of such a line
---     all-pass       every line passes, and so each test finds none that fails
+--     reading-stored    a loop that stores each line's row: one line more
 -- Assumes nothing.
-use mathlib.Core.Path.{_≡_, refl, _∙_, ap}
-use mathlib.Core.List.{List}
+use mathlib.Core.Path.{_≡_, refl, _∙_, ap, subst}
+use mathlib.Core.List.{List, []}
 use mathlib.Core.Bool.{Bool, true, false, not, _||_}
 use Prim.Native.Nat.{ℕ, _+_, _<_}
 use native.Mathlib.Numerals.{add-one}
 use native.Mathlib.Omega.{arith}
 use borrow.Author.Tests.{eq-eqb, lt-leb}
 use lib.Dec.{eqb, leb}
-use lib.ListN.{length, getD}
+use lib.ListN.{length, getD, set}
+use lib.IntN.{ℤ}
 use Rattle.lists.specs.Below.{someBelow}
-use Rattle.lists.proofs.Below.{none-is-end, none-some}
+use Rattle.lists.proofs.Below.{none-some}
 use Rattle.records.specs.Records.{recordFields, field, typeIn}
 use Rattle.types.specs.Types.{typeNamed}
 use Rattle.tables.specs.Tables.{fieldCount}
 use Rattle.field_tests.specs.Steps.{misfilled, unfilledAt}
-use Rattle.format.specs.Format.{isPrintable, lineAt, unformatted, someField, unfit, unfilled, unitOf, miscoded, firstUnformatted, firstMiscoded}
+use Rattle.format.specs.Format.{isPrintable, unformatted, unfit, unfilled}
 use Rattle.columns.specs.declared.Row.{Row}
+use Rattle.columns.specs.Rows.{RowRead, RowStored}
+use Rattle.columns.proofs.Rows.{Reading, reading-more}
 use Rattle.coded_fields.specs.Steps.{unitIf}
-use Rattle.passing_lines.specs.Lines.{FieldStands, fieldAfter, NumbersRead, codesStand, RowOf, LinePasses, LineRead, AllPass}
-use Rattle.passing_lines.proofs.Texts.{Printable, printable-line}
-use Rattle.passing_lines.proofs.Codes.{same-fields, type-is, stands-at, codes-pass}
-use Rattle.passing_lines.proofs.Rows.{row-read}
+use Rattle.line_readings.specs.LineReadings.{FieldStands, fieldAfter, NumbersRead}
+use Rattle.codes_and_rows.specs.Numbers.{codesStand, RowOf}
+use Rattle.passing_lines.specs.Lines.{LinePasses, LineRead}
+use Rattle.codes_and_rows.proofs.Texts.{Printable, printable-line}
+use Rattle.codes_and_rows.proofs.Codes.{same-fields, type-is, stands-at, codes-pass}
+use Rattle.codes_and_rows.proofs.Rows.{row-read}
 
 -- ---- a line
 module _ {type : ℕ} {line numbers : List ℕ} (read : NumbersRead type line numbers) (known : type < 9) (named : type ≡ typeNamed (fieldAfter line 2))
@@ -74,14 +79,10 @@ pub line-read : {unit line numbers : List ℕ} {type : ℕ} → type < 9 → typ
 line-read {line = line} known named passing read row made =
     record { passes = passing; row = row-read read known (printable-bytes line (passing .formatted)) (type-is read known named) row made }
 
--- ---- all lines
-pub all-pass : (lines : List (List ℕ)) → 0 < length lines → ((i : ℕ) → i < length lines → LinePasses (unitOf (lineAt lines 0)) (lineAt lines i)) → AllPass lines
-unfolding firstUnformatted firstMiscoded
-all-pass lines some each =
-    record {
-      some = some;
-      formatted = none-is-end (λ (i : ℕ). unformatted (lineAt lines i)) (length lines) (λ i h. each i h .formatted);
-      fitting = none-is-end (λ (i : ℕ). someField unfit (lineAt lines i)) (length lines) (λ i h. each i h .fitting);
-      filled = none-is-end (λ (i : ℕ). someField unfilled (lineAt lines i)) (length lines) (λ i h. each i h .filled);
-      coded = none-is-end (λ (i : ℕ). miscoded (unitOf (lineAt lines 0)) (lineAt lines i)) (length lines) (λ i h. each i h .coded);
-    }
+-- ---- the columns: one line more, whose row is stored
+pub reading-stored : {lines : List (List ℕ)} {charges₀ usages₀ : List ℤ} {i : ℕ} {words : List ℕ} {charges usages : List ℤ} {row : Row} {after : List ℕ} {charges′ usages′ : List ℤ}
+    → Reading lines charges₀ usages₀ i words charges usages → i < length lines → i < length charges₀ → length usages₀ ≡ length charges₀ → RowRead (getD lines i []) row
+    → RowStored (length charges) words i (row .numbers) 8 after → charges′ ≡ set charges i (row .charge) → usages′ ≡ set usages i (row .usage)
+    → Reading lines charges₀ usages₀ (i + 1) after charges′ usages′
+reading-stored {i = i} {words = words} {row = row} {after = after} r h small space line stored p q =
+    rw (p, q) (reading-more r h small space line (subst (λ (room : ℕ). RowStored room words i (row .numbers) 8 after) (r .charge .size) stored) refl refl)

@@ -1,5 +1,4 @@
 -- Laws of IDs that were read, and of what is read as an ID first: IDs of fixed length, and dates.
---     field-length                         how long the field at the start is
 --     filled-fits                          what fits a type and isn't empty
 --     id-bound, id-read                    the digits of a field are its ID
 --     id-empty, id-number                  what an ID tells: that the field is empty, or else its number
@@ -14,8 +13,6 @@ use borrow.Author.Tests.{eq-eqb, ne-eqb}
 use lib.Dec.{eqb}
 use lib.ListN.{length, take}
 use lib.Seq.{length-take-le}
-use Rattle.lists.specs.First.{isByte}
-use Rattle.lists.proofs.First.{first-le}
 use Rattle.digits.specs.declared.Number.{Number}
 use Rattle.digits.specs.declared.Number.the-variants.{Value, Other}
 use Rattle.digits.specs.Digits.{numberOf, digitsOf, fixedDigitsOf}
@@ -26,14 +23,13 @@ use Rattle.fields.specs.declared.FieldType.{FieldType}
 use Rattle.fields.specs.declared.FieldType.the-variants.{RecordId, Digits, Date}
 use Rattle.fields.specs.Fields.{isRead, isDay, fitsFilled, fitsType}
 use Rattle.columns.specs.Columns.{heldNumber, heldDay}
-use Rattle.readings.specs.declared.Run.{Run}
-use Rattle.readings.specs.declared.Reading.{Reading}
-use Rattle.readings.specs.Readings.{fieldEnd, leadingField, Ends, Says, FieldRead, DigitsRead}
-use Rattle.readings.proofs.Ends.{ends-there, digits-before, fits-empty, fits-filled, empty-says, field-read}
-use Rattle.readings.proofs.Runs.{run-bound}
-
-pub field-length : (s : List ℕ) → length (leadingField s) ≡ fieldEnd s
-field-length s = length-take-le (fieldEnd s) s (first-le (isByte 44) s)
+use Rattle.leading_bytes.specs.declared.Run.{Run}
+use Rattle.leading_bytes.specs.declared.Reading.{Reading}
+use Rattle.leading_bytes.specs.LeadingBytes.{fieldEnd, leadingField, Ends, DigitsRead}
+use Rattle.leading_bytes.proofs.Ends.{field-length, ends-there, digits-before}
+use Rattle.leading_bytes.proofs.Runs.{run-bound}
+use Rattle.readings.specs.Readings.{Says, FieldRead}
+use Rattle.readings.proofs.Fields.{fits-empty, fits-filled, empty-says, field-read}
 
 or-second : (a b : Bool) → a ≡ false → a || b ≡ true → b ≡ true
 or-second true b e o = absurd (let z : _≡_ {A = ℕ} 0 1 = cc in omega arith)

@@ -1,5 +1,4 @@
-pub mod Ends
-pub mod Runs
+pub mod Fields
 pub mod Ids
 pub mod Texts
-pub mod Magnitudes
+pub mod Numbers

@@ -94,9 +94,10 @@ fn by_rank(members: &[u64], owners: &[u64], joined: &mut [usize], owned: &mut [u
     ensures { λ r. ⌜ (r ≡ true → Slotted (now (members .entry)) (now (owners .entry)) (length (now (owners .entry))) (now (joined .exit)) (now (owned .exit))) ⌝ }
 {
     let n = owners.len();
+    let mut order = [0u16; 4096];
+    let mut ranks = [0u16; 4096];
     let mut sorted = [0u64; 4096];
-    // The sort works in the two columns before they are filled.
-    if !ranks::sort_values(owners, n, joined, owned, &mut sorted) {
+    if !ranks::sort_values(owners, n, &mut order, &mut ranks, &mut sorted) {
         return false;
     }
     fill_ranks(members, &sorted, n, joined);

@@ -1,6 +1,4 @@
-pub mod Conditions
 pub mod Meaning
 pub mod Opposite
-pub mod Partners
-pub mod Scans
+pub mod Sizes
 pub mod Tests

@@ -25,7 +25,7 @@ use Rattle.entries.specs.Entries.{blank, entryOf, period}
 use Rattle.soundness.specs.Meaning.{EntryFits, LivePeriod, Alike, Names, Opposite, Paired, Sound}
 use Rattle.soundness.specs.Sound.{sizesFit, digitsFit, rangesFit, daysFit, lacksFit, entryFits, sameKey, repeatsKey, isLivePeriod, clash, clashes, sameSubject, isNamed, namesAlike, opposite, cancelsBefore, cancelledBefore, pairs, unpaired, isFaulty, entriesSound, isSound}
 use Rattle.soundness.proofs.Opposite.{is-zero, opposite-sum}
-use Rattle.soundness.proofs.Scans.{sizes-mean}
+use Rattle.soundness.proofs.Sizes.{sizes-mean}
 use Rattle.soundness.proofs.Tests.{equal, below, at-most, both, unless, implies, exactly, fails, neither, excused, not-fails, one-or-two, one-to-three, none-means, some-means}
 
 -- ---- the sentences that look at one entry

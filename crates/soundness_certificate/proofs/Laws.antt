@@ -29,7 +29,7 @@ use Rattle.entries.specs.Words.{entriesOf}
 use Rattle.entries.proofs.Words.{length-entries, take-entries}
 use Rattle.soundness.specs.Meaning.{EntryFits, Names, Paired, Sound}
 use Rattle.soundness.specs.Sound.{sizesFit, isNamed, opposite, isSound}
-use Rattle.soundness.proofs.Scans.{sizes-mean}
+use Rattle.soundness.proofs.Sizes.{sizes-mean}
 use Rattle.soundness.proofs.Meaning.{entries-mean, named-means, opposite-means}
 use Rattle.soundness_certificate.specs.Certificate.{Copied, keyOf, keyAt, Keyed, KeysDiffer, stateAt, Cancels, Marked, WithMarks, PairedOff}
 

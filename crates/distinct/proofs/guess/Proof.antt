@@ -25,11 +25,17 @@ mul-a c = search needs
 shared-slice-read-a : tie.Need-shared-slice-read-a Inv-loop μ-loop
 shared-slice-read-a c = search needs
 
+cast-a : tie.Need-cast-a Inv-loop μ-loop
+cast-a c = omega (arith, c .shared-slice-known .given (c .before .before .loop .i - 1))
+
 mul-b : tie.Need-mul-b Inv-loop μ-loop
 mul-b c = search needs
 
 shared-slice-read-b : tie.Need-shared-slice-read-b Inv-loop μ-loop
 shared-slice-read-b c = search needs
+
+cast-b : tie.Need-cast-b Inv-loop μ-loop
+cast-b c = omega (arith, c .shared-slice-known2 .given (c .before .before .before .loop .i))
 
 mul-if3 : tie.Need-mul-if3 Inv-loop μ-loop
 mul-if3 c = search needs
@@ -65,8 +71,10 @@ guess-spec =
     sub-a
     mul-a
     shared-slice-read-a
+    cast-a
     mul-b
     shared-slice-read-b
+    cast-b
     mul-if3
     shared-slice-read-if3
     mul-if3-2

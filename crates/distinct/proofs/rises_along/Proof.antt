@@ -30,6 +30,9 @@ mul-a c = search needs
 shared-slice-read-a : tie.Need-shared-slice-read-a Inv-loop μ-loop
 shared-slice-read-a c = search needs
 
+cast-a : tie.Need-cast-a Inv-loop μ-loop
+cast-a c = omega (arith, c .shared-slice-known .given (c .before .before .loop .i - 1))
+
 returns : tie.Need-returns Inv-loop μ-loop
 returns c = λ e. let z : _≡_ {A = ℕ} 0 1 = cc in absurd (omega arith)
 
@@ -38,6 +41,9 @@ mul-b c = search needs
 
 shared-slice-read-b : tie.Need-shared-slice-read-b Inv-loop μ-loop
 shared-slice-read-b c = search needs
+
+cast-b : tie.Need-cast-b Inv-loop μ-loop
+cast-b c = omega (arith, c .shared-slice-known2 .given (c .before .before .before .before .loop .i))
 
 returns-2 : tie.Need-returns-2 Inv-loop μ-loop
 returns-2 c = λ e. let z : _≡_ {A = ℕ} 0 1 = cc in absurd (omega arith)
@@ -83,9 +89,11 @@ rises-along-spec =
     sub-a
     mul-a
     shared-slice-read-a
+    cast-a
     returns
     mul-b
     shared-slice-read-b
+    cast-b
     returns-2
     mul-if3
     shared-slice-read-if3

@@ -3,7 +3,7 @@
 use mathlib.Core.Path.{sym, _∙_}
 use borrow.Author.Tests.{not-false}
 use Rattle.passing_lines.proofs.Lines.{line-read}
-use Rattle.passing_lines.proofs.Heads.{never}
+use Rattle.line_readings.proofs.Heads.{never}
 use borrow.Author.Needs.{needs}
 use Rattle.passing_lines.proofs.read_line.Statement.{statement}
 use Rattle.passing_lines.proofs.read_line.Tie as tie

@@ -1,8 +1,8 @@
 -- `readings::read_char` meets its contract: the bytes at the start end the field, and are as many as the width.
 -- Assumes nothing.
 use Rattle.readings.proofs.Texts.{char-read}
-use Rattle.readings.proofs.Ends.{empty-read}
-use Rattle.readings.specs.Readings.{Ends}
+use Rattle.readings.proofs.Fields.{empty-read}
+use Rattle.leading_bytes.specs.LeadingBytes.{Ends}
 use Rattle.fields.specs.declared.FieldType.the-variants.{Char}
 use denote.Ref.{now}
 use borrow.Author.Tests.{not-false}

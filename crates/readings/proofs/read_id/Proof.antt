@@ -1,8 +1,8 @@
 -- `readings::read_id` meets its contract: the digits at the start end the field, so they are its ID, or the field is empty.
 -- Assumes nothing.
 use Rattle.readings.proofs.Ids.{id-bound, id-read}
-use Rattle.readings.proofs.Ends.{empty-read}
-use Rattle.readings.specs.Readings.{Ends}
+use Rattle.readings.proofs.Fields.{empty-read}
+use Rattle.leading_bytes.specs.LeadingBytes.{Ends}
 use Rattle.fields.specs.declared.FieldType.the-variants.{RecordId}
 use denote.Ref.{now}
 use borrow.Author.Tests.{not-false}

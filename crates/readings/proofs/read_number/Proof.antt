@@ -1,8 +1,9 @@
 -- `readings::read_number` meets its contract: an empty field, an amount after its minus, or one without.
 -- Assumes nothing.
-use Rattle.readings.proofs.Magnitudes.{next-ends, next-inside, next-is, plain-number, minus-number}
-use Rattle.readings.proofs.Ends.{empty-read}
-use Rattle.readings.specs.Readings.{MagnitudeRead}
+use Rattle.leading_bytes.proofs.Ends.{next-ends, next-inside, next-is}
+use Rattle.readings.proofs.Numbers.{plain-number, minus-number}
+use Rattle.readings.proofs.Fields.{empty-read}
+use Rattle.amount_readings.specs.AmountReadings.{MagnitudeRead}
 use Rattle.fields.specs.declared.FieldType.the-variants.{Number}
 use denote.Ref.{now}
 use lib.ListN.{length, getD}

@@ -13,8 +13,8 @@ use Rattle.soundness_certificate.proofs.cancelled_place.Tie as tie
 key-requires : tie.Need-key-requires
 key-requires c κs = search needs
 
-place-of-requires : tie.Need-place-of-requires
-place-of-requires c κs = search needs
+place-of-key-requires : tie.Need-place-of-key-requires
+place-of-key-requires c κs = search needs
 
 returns : tie.Need-returns
 returns c = λ h. absurd (omega arith)
@@ -37,9 +37,9 @@ returns-3 c = λ h. absurd (omega arith)
 returns-4 : tie.Need-returns-4
 returns-4 c =
     λ h.
-    let s = c .before .before .before .before .before .before .before .before .before .before .before .before in
+    let s = c .before .before .before .before .before .before .before .before .before .before .before .before .before in
     let a = s .args in
-    cancels (entriesOf (now (a .words)) (now (a .amounts)) (a .used)) (a .i) (c .before .before .before .before .before .before .place-of .result) (a .cancel) (c .before .before .before .before .entry-in-use .result) (s .pre .1 .1 .0) (c .before .before .before .before .entry-in-use .ensures) (c .before .before .before .before .before .if1 .left) (s .pre .1 .1 .1)
+    cancels (entriesOf (now (a .words)) (now (a .amounts)) (a .used)) (a .i) (c .before .before .before .before .before .before .place-of-key .result) (a .cancel) (c .before .before .before .before .entry-in-use .result) (s .pre .1 .1 .0) (c .before .before .before .before .entry-in-use .ensures) (c .before .before .before .before .before .if1 .left) (s .pre .1 .1 .1)
     (sym (c .before .before .before .is-named .ensures) ∙ not-false _ (c .before .before .if2 .left)) (sym (c .before .is-opposite .ensures) ∙ not-false _ (c .if3 .left))
 
 pub cancelled-place-spec : {M : Type 1} → statement M
@@ -47,7 +47,7 @@ cancelled-place-spec =
     tie.close
     (tie.spec
     key-requires
-    place-of-requires
+    place-of-key-requires
     returns
     entry-in-use-requires
     is-named-requires

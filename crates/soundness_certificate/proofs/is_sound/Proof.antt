@@ -1,10 +1,13 @@
--- `soundness_certificate::is_sound` meets its contract: sizes that do not fit decide the answer, then the certificate, and where it shows nothing the plain scans.
+-- `soundness_certificate::is_sound` meets its contract: sizes that do not fit decide the answer, then what is found by buckets, then in sorted order, and else the plain scans.
 -- Assumes nothing.
-use mathlib.Core.Path.{sym, _∙_}
+use mathlib.Core.Path.{_≡_, sym, _∙_}
+use mathlib.Core.Bool.{true}
+use Prim.Native.Nat.{_≤_, _*_}
 use denote.Ref.{now}
+use lib.ListN.{length}
 use borrow.Author.Tests.{not-true, not-false}
-use Rattle.soundness.proofs.Scans.{sizes-mean, sizes-amiss}
-use Rattle.soundness_certificate.proofs.Laws.{sound-in-use}
+use Rattle.soundness.specs.Sound.{sizesFit}
+use Rattle.soundness.proofs.Sizes.{sizes-mean, sizes-amiss}
 use borrow.Author.Needs.{needs}
 use native.Mathlib.Omega.{arith}
 use Rattle.soundness_certificate.proofs.is_sound.Statement.{statement}
@@ -16,22 +19,33 @@ sizes-fit-requires c κs = search needs
 returns : tie.Need-returns
 returns c = let a = c .before .before .before .args in sym (sizes-amiss (now (a .words)) (now (a .amounts)) (a .places) (a .used) (sym (c .before .sizes-fit .ensures) ∙ not-true _ (c .if1 .taken)))
 
-is-certified-requires : tie.Need-is-certified-requires
-is-certified-requires c κs =
+-- past the first test the sizes fit, and the runs have room for the entries in use
+fit : (c : tie.Else1) → sizesFit (c .before .before .before .args .places) (c .before .before .before .args .used) ≡ true
+fit c = sym (c .before .sizes-fit .ensures) ∙ not-false _ (c .if1 .left)
+
+room : (c : tie.Else1) → let a = c .before .before .before .args in (a .used * 9 ≤ length (now (a .words))) × (a .used * 2 ≤ length (now (a .amounts))) × (a .used ≤ 8192)
+room c =
     let s = c .before .before .before in
-    let sizes = sizes-mean (s .args .places) (s .args .used) .0 (sym (c .before .sizes-fit .ensures) ∙ not-false _ (c .if1 .left)) in
+    let sizes = sizes-mean (s .args .places) (s .args .used) .0 (fit c) in
     (omega (arith, sizes, s .pre), omega (arith, sizes, s .pre), omega (arith, sizes))
 
+judge-requires : tie.Need-judge-requires
+judge-requires c κs = room c
+
 returns-2 : tie.Need-returns-2
-returns-2 c =
-    let a = c .before .before .before .before .before .args in
-    sym (sound-in-use (now (a .words)) (now (a .amounts)) (a .places) (a .used) (sym (c .before .before .before .sizes-fit .ensures) ∙ not-false _ (c .before .before .if1 .left)) (c .before .is-certified .ensures (c .if2 .taken)))
+returns-2 c = c .before .judge .ensures (c .before .before .before .before .before .args .places) (fit (c .before .before)) (c .if2 .taken)
+
+judge-requires-2 : tie.Need-judge-requires-2
+judge-requires-2 c κs = room (c .before .before)
+
+returns-3 : tie.Need-returns-3
+returns-3 c = c .before .judge2 .ensures (c .before .before .before .before .before .before .before .args .places) (fit (c .before .before .before .before)) (c .if3 .taken)
 
 is-sound-plainly-requires : tie.Need-is-sound-plainly-requires
 is-sound-plainly-requires c κs = search needs
 
-returns-3 : tie.Need-returns-3
-returns-3 c = search needs
+returns-4 : tie.Need-returns-4
+returns-4 c = search needs
 
 pub is-sound-spec : {M : Type 1} → statement M
 is-sound-spec =
@@ -39,7 +53,9 @@ is-sound-spec =
     (tie.spec
     sizes-fit-requires
     returns
-    is-certified-requires
+    judge-requires
     returns-2
+    judge-requires-2
+    returns-3
     is-sound-plainly-requires
-    returns-3)
+    returns-4)

@@ -16,15 +16,15 @@ use Rattle.soundness_certificate.proofs.mark_cancelled.Statement.{state
 use Rattle.soundness_certificate.proofs.mark_cancelled.Tie as tie
 
 abbrev Inv-loop : tie.InvT-loop
-Inv-loop words amounts used keys heads links states marks₀ i₀ marks i = (i ≤ used) × (length marks ≡ length marks₀) × Marked (entriesOf words amounts used) i marks
+Inv-loop words amounts used keys heads links order sorted states marks₀ i₀ marks i = (i ≤ used) × (length marks ≡ length marks₀) × Marked (entriesOf words amounts used) i marks
 
 abbrev μ-loop : tie.MeasureT-loop
-μ-loop words amounts used keys heads links states marks₀ i₀ marks i = used - i
+μ-loop words amounts used keys heads links order sorted states marks₀ i₀ marks i = used - i
 
 loop-holds : tie.Need-loop-holds Inv-loop μ-loop
 loop-holds c =
-    let s = c .before .before .before .before .before .before in
-    let a = s .args in (omega arith, refl, marked-none (entriesOf (now (a .words)) (now (a .amounts)) (a .used)) (now (a .marks)) (s .pre .1 .2))
+    let s = c .before .before .before .before .before .before .before in
+    let a = s .args in (omega arith, refl, marked-none (entriesOf (now (a .words)) (now (a .amounts)) (a .used)) (now (a .marks)) (s .pre .1 .1 .1))
 
 shared-slice-read-if1 : tie.Need-shared-slice-read-if1 Inv-loop μ-loop
 shared-slice-read-if1 c = search needs
@@ -34,16 +34,16 @@ entry-in-use-requires c κs = search needs
 
 cancelled-place-requires : tie.Need-cancelled-place-requires Inv-loop μ-loop
 cancelled-place-requires c κs =
-    let s = c .before .before .before .before .before .before .before .before .before .before .before in
+    let s = c .before .before .before .before .before .before .before .before .before .before .before .before in
     let less = c .before .before .before .loop-test .taken in
     let is = c .entry-in-use .ensures in
-    ((s .pre .0 .0, s .pre .0 .1, less), (s .pre .1 .0, (is, ap (λ (e : Entry). e .state) is ∙ sym (s .pre .1 .1 _ less) ∙ c .before .if1 .taken)))
+    ((s .pre .0 .0, s .pre .0 .1, less), (s .pre .1 .0, (is, ap (λ (e : Entry). e .state) is ∙ sym (s .pre .1 .1 .0 _ less) ∙ c .before .if1 .taken)))
 
 same-length : tie.Need-same-length Inv-loop μ-loop
 same-length c = search needs
 
 returns : tie.Need-returns Inv-loop μ-loop
-returns c = λ e. let z : _≡_ {A = ℕ} 0 1 = cc in absurd (omega arith)
+returns c = λ e. absurd (omega arith)
 
 mul-if3 : tie.Need-mul-if3 Inv-loop μ-loop
 mul-if3 c = search needs
@@ -55,10 +55,13 @@ same-length-2 : tie.Need-same-length-2 Inv-loop μ-loop
 same-length-2 c = search needs
 
 returns-2 : tie.Need-returns-2 Inv-loop μ-loop
-returns-2 c = λ e. let z : _≡_ {A = ℕ} 0 1 = cc in absurd (omega arith)
+returns-2 c = λ e. absurd (omega arith)
 
 add-marks : tie.Need-add-marks Inv-loop μ-loop
 add-marks c = search needs
+
+cast-marks : tie.Need-cast-marks Inv-loop μ-loop
+cast-marks c = search needs
 
 mul-marks : tie.Need-mul-marks Inv-loop μ-loop
 mul-marks c = search needs
@@ -75,10 +78,10 @@ loop-less c = search needs
 loop-again : tie.Need-loop-again Inv-loop μ-loop
 loop-again c =
     let p = c .before .before .before .loop in
-    let s = c .before .before .before .before .before .before .before .before .before .before in
+    let s = c .before .before .before .before .before .before .before .before .before .before .before in
     let a = s .args in
     let es = entriesOf (now (a .words)) (now (a .amounts)) (a .used) in
-    let state = s .pre .1 .1 (p .i) (c .before .before .loop-test .taken) in
+    let state = s .pre .1 .1 .0 (p .i) (c .before .before .loop-test .taken) in
     let room : length (p .marks) ≡ length (now (a .marks)) = p .inv .1 in
     ⊎-elim
     (λ w.
@@ -96,7 +99,7 @@ same-length-3 c = search needs
 returns-3 : tie.Need-returns-3 Inv-loop μ-loop
 returns-3 c =
     let p = c .before .loop in
-    let a = c .before .before .before .before .before .before .before .before .args in
+    let a = c .before .before .before .before .before .before .before .before .before .args in
     let z : p .i ≡ a .used = omega arith in
     λ e. subst (λ (m : ℕ). Marked (entriesOf (now (a .words)) (now (a .amounts)) (a .used)) m (p .marks)) z (p .inv .2)
 
@@ -117,6 +120,7 @@ mark-cancelled-spec =
     same-length-2
     returns-2
     add-marks
+    cast-marks
     mul-marks
     slice-write-marks
     add-i

@@ -1,0 +1,94 @@
+-- Test 7 by numbers is test 7 by texts.
+--     unit-printable                     the unit of a commodity is a printable text
+--     same-fields, type-is, field-of, stands-at    a line whose fields are read: its record's fields, its type, and field k of it
+--     field-printable, text-number       a field is printable, and a short text's number is that of its bytes
+--     either-is                          a test on the number of a field is a test on its text
+--     codes-pass                         so a line whose numbers pass test 7 passes it
+-- Assumes nothing.
+use mathlib.Core.Path.{_≡_, refl, sym, _∙_, ap, subst}
+use mathlib.Core.List.{List, []}
+use mathlib.Core.Bool.{Bool, true, false, not, _&&_, _||_}
+use Prim.Native.Nat.{ℕ, zero, suc, _<_}
+use native.Mathlib.Numerals.{add-one}
+use native.Mathlib.Omega.{arith}
+use lib.Dec.{T, eqb}
+use lib.ListN.{getD}
+use Rattle.lists.specs.Bytes.{sameBytes}
+use Rattle.lists.specs.Written.{written}
+use Rattle.text.specs.Text.{fieldsOf}
+use Rattle.digits.proofs.Laws.{both-true}
+use Rattle.types.specs.Types.{typeNamed}
+use Rattle.records.specs.Records.{recordFields, field, typeIn}
+use Rattle.records.proofs.Laws.{fields-few, field-at}
+use Rattle.tables.specs.Tables.{fieldCount, fieldType}
+use Rattle.tables.proofs.Laws.{count-most}
+use Rattle.format.specs.Format.{commodityFields, unitFields, cancelFields, exemptionFields, neither, miscoded}
+use Rattle.coded_fields.specs.Steps.{unitIf}
+use Rattle.leading_bytes.specs.LeadingBytes.{packed}
+use Rattle.line_readings.specs.LineReadings.{FieldStands, fieldAfter, NumbersRead}
+use Rattle.codes_and_rows.specs.Numbers.{isEither, codesStand}
+use Rattle.line_readings.proofs.Heads.{never}
+use Rattle.codes_and_rows.proofs.Texts.{Printable, printable-text, printable-field, packed-is}
+use Rattle.codes_and_rows.proofs.FieldKinds.{hasKind, kind-at, isShortText, says-text, commodity-kind, unit-kind, cancel-kind, exemption-kind}
+
+pub unit-printable : (electricity : Bool) → Printable (unitIf electricity)
+unfolding unitIf
+unit-printable true = printable-text (written "KWH") tt
+unit-printable false = printable-text (written "GJ") tt
+
+passes : (none same : Bool) → none || same ≡ true → not none && not same ≡ false
+passes true same e = refl
+passes false true e = refl
+passes false false e = never e
+
+module _ {type : ℕ} {line numbers : List ℕ} (read : NumbersRead type line numbers) (known : type < 9) where
+  pub same-fields : recordFields line ≡ fieldsOf line
+  same-fields = fields-few line (omega (arith, read .counted, count-most type known))
+
+  pub type-is : type ≡ typeNamed (fieldAfter line 2) → typeIn line ≡ type
+  unfolding typeIn
+  type-is e = ap typeNamed (field-at line 2 ∙ ap (λ (fields : List (List ℕ)). getD fields 2 []) same-fields) ∙ sym e
+
+  pub field-of : (j : ℕ) → field (suc j) line ≡ fieldAfter line j
+  unfolding field
+  field-of j = ap (λ (fields : List (List ℕ)). getD fields j []) same-fields
+
+  pub stands-at : (j : ℕ) → j < fieldCount type → FieldStands type j (field (suc j) line) (getD numbers (suc j) 0)
+  stands-at j h = rw (field-of j) (subst (λ (k : ℕ). FieldStands type j (fieldAfter line j) (getD numbers k 0)) (add-one j) (read .stands j h))
+
+  module _ (printable : Printable line) where
+    pub field-printable : (j : ℕ) → Printable (field (suc j) line)
+    field-printable j = rw (field-of j) (printable-field line printable j)
+
+    -- the number of a short text
+    pub text-number : (j : ℕ) → T (hasKind isShortText type (suc j)) → getD numbers (suc j) 0 ≡ packed (field (suc j) line)
+    text-number j t = let here = kind-at isShortText type j t in says-text _ _ (fieldType type j) (here .1) (stands-at j (here .0) .says)
+
+    pub either-is : (one two : List ℕ) → Printable one → Printable two → (k : ℕ) → T (hasKind isShortText type k)
+        → isEither k numbers one two ≡ (eqb k 0 || (sameBytes (field k line) one || sameBytes (field k line) two))
+    unfolding isEither
+    either-is one two p q zero t = refl
+    either-is one two p q (suc j) t =
+        rw (text-number j t, packed-is (field (suc j) line) one (field-printable j) p, packed-is (field (suc j) line) two (field-printable j) q)
+
+    module _ (named : typeIn line ≡ type) where
+      code-passes : (table one two : List ℕ) → Printable one → Printable two → T (hasKind isShortText type (getD table type 0)) → isEither (getD table type 0) numbers one two ≡ true
+          → neither table one two line ≡ false
+      unfolding neither
+      code-passes table one two p q kind e =
+          rw named
+          (passes (eqb (getD table type 0) 0) (sameBytes (field (getD table type 0) line) one || sameBytes (field (getD table type 0) line) two)
+          (sym (either-is one two p q (getD table type 0) kind) ∙ e))
+
+      pub codes-pass : (electricity : Bool) → codesStand (unitIf electricity) type numbers ≡ true → miscoded (unitIf electricity) line ≡ false
+      unfolding codesStand miscoded
+      codes-pass electricity e =
+          let first = both-true (isEither (getD commodityFields type 0) numbers (written "EL") (written "NG")) _ e in
+          let second = both-true (isEither (getD unitFields type 0) numbers (unitIf electricity) (unitIf electricity)) _ (first .1) in
+          let third = both-true (isEither (getD cancelFields type 0) numbers (written "Y") (written "N")) _ (second .1) in
+          rw (
+            code-passes commodityFields (written "EL") (written "NG") (printable-text (written "EL") tt) (printable-text (written "NG") tt) (commodity-kind type known) (first .0),
+            code-passes unitFields (unitIf electricity) (unitIf electricity) (unit-printable electricity) (unit-printable electricity) (unit-kind type known) (second .0),
+            code-passes cancelFields (written "Y") (written "N") (printable-text (written "Y") tt) (printable-text (written "N") tt) (cancel-kind type known) (third .0),
+            code-passes exemptionFields (written "Y") (written "N") (printable-text (written "Y") tt) (printable-text (written "N") tt) (exemption-kind type known) (third .1),
+          )

@@ -1,0 +1,18 @@
+-- `leading_bytes::ends_at` meets its contract: at the end of s, or where a comma stands.
+-- Assumes nothing.
+use borrow.Author.Tests.{eqb-true}
+use borrow.Author.Needs.{needs}
+use Rattle.leading_bytes.proofs.ends_at.Statement.{statement}
+use Rattle.leading_bytes.proofs.ends_at.Tie as tie
+
+returns : tie.Need-returns
+returns c = search needs
+
+shared-slice-read-result : tie.Need-shared-slice-read-result
+shared-slice-read-result c = search needs
+
+returns-2 : tie.Need-returns-2
+returns-2 c = λ e. (search needs, λ l. eqb-true _ 44 e)
+
+pub ends-at-spec : {M : Type 1} → statement M
+ends-at-spec = tie.close (tie.spec returns shared-slice-read-result returns-2)

@@ -1,0 +1,99 @@
+// The start of a line's bytes: the digits or the text that stand there, the place at which the field there can end, and what is read of that field.
+ghost use mathlib.Core.Path.{_≡_};
+ghost use mathlib.Core.Bool.{true, false};
+ghost use Prim.Native.Nat.{_≤_};
+ghost use lib.ListN.{length, getD};
+ghost use Rattle.leading_bytes.specs.LeadingBytes.{Ends, DigitsRead, TextRead};
+
+// The bytes that were read, and the number that they write.
+pub struct Run {
+    pub len: usize,
+    pub value: u64,
+}
+
+// Whether a field fits its type, and then where it ends and what it says as one number. Where it doesn't fit, nothing is known.
+pub struct Reading {
+    pub fits: bool,
+    pub len: usize,
+    pub number: u64,
+}
+
+// The digits at the start of s, at most 15.
+pub fn leading_digits(s: &[u8]) -> Run
+    ensures { λ r. ⌜ DigitsRead (now (s .entry)) r ⌝ }
+{
+    let n = if s.len() < 15 { s.len() } else { 15 };
+    let mut value: u64 = 0;
+    let mut len: usize = 0;
+    while len < n {
+        let b = s[len];
+        if b < 48 {
+            return Run { len, value };
+        }
+        if 57 < b {
+            return Run { len, value };
+        }
+        value = value * 10 + lists::wide(b - 48);
+        len += 1;
+    }
+    Run { len, value }
+}
+
+// The bytes at the start of s before a comma, at most 4.
+pub fn leading_text(s: &[u8]) -> Run
+    ensures { λ r. ⌜ TextRead (now (s .entry)) r ⌝ }
+{
+    let n = if s.len() < 4 { s.len() } else { 4 };
+    let mut value: u64 = 0;
+    let mut len: usize = 0;
+    while len < n {
+        let b = s[len];
+        if b == 44 {
+            return Run { len, value };
+        }
+        value = value * 256 + lists::wide(b);
+        len += 1;
+    }
+    Run { len, value }
+}
+
+// Whether the field at the start of s can end at k.
+pub fn ends_at(s: &[u8], k: usize) -> bool
+    requires { ⌜ k ≤ length (now s) ⌝ }
+    ensures { λ r. ⌜ (r ≡ true → Ends (now (s .entry)) k) ⌝ }
+{
+    if k == s.len() {
+        return true;
+    }
+    s[k] == 44
+}
+
+// The byte of s at k, or a comma where s ends before it.
+pub fn next_byte(s: &[u8], k: usize) -> u8
+    ensures { λ r. ⌜ r ≡ getD (now (s .entry)) k 44 ⌝ }
+{
+    if s.len() <= k {
+        return 44;
+    }
+    s[k]
+}
+
+pub fn misses() -> Reading
+    ensures { λ r. ⌜ r .fits ≡ false ⌝ }
+{
+    Reading {
+        fits: false,
+        len: 0,
+        number: 0,
+    }
+}
+
+pub fn reads(len: usize, number: u64) -> Reading
+    ensures { λ r. ⌜ (r .fits ≡ true) × (r .len ≡ len) × (r .number ≡ number) ⌝ }
+{
+    Reading {
+        fits: true,
+        len,
+        number,
+    }
+}

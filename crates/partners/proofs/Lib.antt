@@ -1,0 +1,4 @@
+pub mod Conditions
+pub mod CountScan
+pub mod Opposite
+pub mod Partners
