@@ -228,16 +228,19 @@ pub fn read_lines(
         let e = ends[i];
         let line = read_line(&days, &file[a..e], electricity, &mut numbers);
         let passes = line.passes;
-        let mut row = line.row;
-        if !passes {
+        if passes {
+            let row = line.row;
+            store_line(words, charges, usages, i, row);
+            i += 1;
+        } else {
             if format::is_unformatted(file, a, e) {
                 return none_after_format(i, n);
             }
             firsts = after_failing(file, starts, ends, n, i, electricity, firsts);
-            row = columns::row_at(&days, file, a, e);
+            let row = columns::row_at(&days, file, a, e);
+            store_line(words, charges, usages, i, row);
+            i += 1;
         }
-        store_line(words, charges, usages, i, row);
-        i += 1;
     }
     firsts
 }

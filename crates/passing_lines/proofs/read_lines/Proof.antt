@@ -18,10 +18,8 @@ use Rattle.lists.specs.Written.{written}
 use denote.Ref.{now}
 use lib.ListN.{length, getD}
 use mathlib.Core.List.{List}
-use mathlib.Core.Logic.{⊎-elim}
 use mathlib.Core.Path.{_≡_, sym, _∙_, ap, subst}
-use Prim.Native.Nat.{ℕ, _+_, _-_, _≤_}
-use borrow.Author.Tests.{not-false}
+use Prim.Native.Nat.{ℕ, _-_, _≤_}
 use borrow.Author.Needs.{needs}
 use native.Mathlib.Omega.{arith}
 use Rattle.passing_lines.proofs.read_lines.Statement.{statement}
@@ -89,24 +87,6 @@ line c = placed-at (c .before .before .before .before .before .before .before .b
 line-there : {unit unit′ line line′ : List ℕ} {read : Line} → unit ≡ unit′ → line ≡ line′ → LineRead unit line read → LineRead unit′ line′ read
 line-there {unit′ = unit′} {line = line} {read = read} p q r = subst (λ (l : List ℕ). LineRead unit′ l read) q (subst (λ (u : List ℕ). LineRead u line read) p r)
 
--- the line is asked, whether it passes or not, and its row is read
-joined : (c : tie.Joined2 Inv-loop μ-loop) → Tested (linesOf (now (c .before .before .before .before .before .before .before .before .before .before .before .before .before .before .before .before .before .before .before .before .before .args .file))) (c .before .before .before .before .before .before .before .before .before .before .before .before .before .before .before .before .before .before .before .before .before .args .n) (c .before .before .before .before .before .before .before .before .before .before .loop .i + 1) (c .if2 .firsts) × RowRead (lineAt (linesOf (now (c .before .before .before .before .before .before .before .before .before .before .before .before .before .before .before .before .before .before .before .before .before .args .file))) (c .before .before .before .before .before .before .before .before .before .before .loop .i)) (c .if2 .row)
-joined c =
-    let lines = linesOf (now (c .before .before .before .before .before .before .before .before .before .before .before .before .before .before .before .before .before .before .before .before .before .args .file)) in
-    let n = c .before .before .before .before .before .before .before .before .before .before .before .before .before .before .before .before .before .before .before .before .before .args .n in
-    let before = c .before .before .before .before .before .before .before .before .before .before .loop in
-    let here = line (c .before .before .before .before .before .before .before .before .before) .same in
-    let more = c .before .before .before .before .before .before .before .before .before .loop-test .taken in
-    ⊎-elim
-    (λ w.
-    let formatted = sym (ap unformatted here) ∙ sym (w .1 .ensures) ∙ w .2 .left in
-    let read = subst (λ (l : List ℕ). RowRead l (w .5 .result)) here (w .5 .ensures) in
-    (rw (w .6) (tested-failing lines n (before .inv .2) more formatted (rw (before .inv .1) at (w .3 .ensures))), rw (w .7) read))
-    (λ w.
-    let read = line-there (before .inv .1) here (c .before .before .before .read-line .ensures (not-false _ (w .0 .left))) in
-    (rw (w .1) (tested-pass lines n (before .inv .2) more (read .passes)), rw (w .2) (read .row)))
-    (c .if2 .came)
-
 slice-aggregate-read-line : tie.Need-slice-aggregate-read-line Inv-loop μ-loop
 slice-aggregate-read-line c = search needs
 
@@ -124,39 +104,6 @@ slice-aggregate-read-line-2 c = search needs
 
 read-line-requires : tie.Need-read-line-requires Inv-loop μ-loop
 read-line-requires c κs = (c .before .before .before .before .before .before .before .before .before .before .first-days .ensures, search needs)
-
-is-unformatted-requires : tie.Need-is-unformatted-requires Inv-loop μ-loop
-is-unformatted-requires c κs = let l = line (c .before .before .before .before .before .before .before .before .before) in (l .low, l .high)
-
-none-after-format-requires-2 : tie.Need-none-after-format-requires-2 Inv-loop μ-loop
-none-after-format-requires-2 c κs = search needs
-
-same-length : tie.Need-same-length Inv-loop μ-loop
-same-length c = c .before .before .before .before .before .before .before .before .before .before .before .before .before .loop .inv .3 .numbers .size ∙ sym (c .before .before .before .before .before .before .before .before .before .before .before .before .before .before .before .before .before .before .before .before .before .before .before .before .pre .1 .0 .words-length)
-
-same-length-2 : tie.Need-same-length-2 Inv-loop μ-loop
-same-length-2 c = c .before .before .before .before .before .before .before .before .before .before .before .before .before .loop .inv .3 .charge .size
-
-same-length-3 : tie.Need-same-length-3 Inv-loop μ-loop
-same-length-3 c = c .before .before .before .before .before .before .before .before .before .before .before .before .before .loop .inv .3 .usage .size
-
-returns-2 : tie.Need-returns-2 Inv-loop μ-loop
-returns-2 c =
-    let start = c .before .before .before .before .before .before .before .before .before .before .before .before .before .before .before .before .before .before .before .before .before .before .before .before in
-    let bad = sym (ap unformatted (line (c .before .before .before .before .before .before .before .before .before .before .before .before) .same)) ∙ sym (c .before .before .is-unformatted .ensures) ∙ c .before .if3 .taken in
-    let more = c .before .before .before .before .before .before .before .before .before .before .before .before .loop-test .taken in (
-      tested-here (linesOf (now (start .args .file))) (start .args .n) (c .before .before .before .before .before .before .before .before .before .before .before .before .before .loop .inv .2) more (start .pre .0 .count) bad (c .none-after-format2 .ensures .0),
-      λ e. absurd (omega (arith, more, start .pre .0 .count, c .none-after-format2 .ensures .0, e)),
-    )
-
-after-failing-requires : tie.Need-after-failing-requires Inv-loop μ-loop
-after-failing-requires c κs = (c .before .before .before .before .before .before .before .before .before .before .before .before .before .before .before .before .before .before .before .before .before .before .before .pre .0, c .before .before .before .before .before .before .before .before .before .before .before .loop-test .taken)
-
-slice-aggregate-row-at : tie.Need-slice-aggregate-row-at Inv-loop μ-loop
-slice-aggregate-row-at c = let days = c .before .before .before .before .before .before .before .before .before .before .before .before .before .before .before .before .before .before .first-days in search needs
-
-row-at-requires : tie.Need-row-at-requires Inv-loop μ-loop
-row-at-requires c κs = let l = line (c .before .before .before .before .before .before .before .before .before .before .before .before .before) in (c .before .before .before .before .before .before .before .before .before .before .before .before .before .before .before .before .before .before .first-days .ensures, (l .low, l .high))
 
 store-line-requires : tie.Need-store-line-requires Inv-loop μ-loop
 store-line-requires c κs =
@@ -178,13 +125,81 @@ loop-again : tie.Need-loop-again Inv-loop μ-loop
 loop-again c =
     let before = c .before .before .before .before .before .before .before .before .before .before .before .before .before .before .before .before .before .before .loop in
     let start = c .before .before .before .before .before .before .before .before .before .before .before .before .before .before .before .before .before .before .before .before .before .before .before .before .before .before .before .before .before in
+    let lines = linesOf (now (start .args .file)) in
     let more = c .before .before .before .before .before .before .before .before .before .before .before .before .before .before .before .before .before .loop-test .taken in
-    let read = joined (c .before .before .before .before .before .before .before .before) in (
+    let stored = c .before .before .before .before .store-line .ensures in
+    let read = line-there (before .inv .1) (line (c .before .before .before .before .before .before .before .before .before .before .before .before .before .before .before .before .before) .same) (c .before .before .before .before .before .before .before .before .before .before .before .read-line .ensures (c .before .before .before .before .before .before .before .before .before .if2 .taken)) in (
       omega (arith, more),
       before .inv .1,
-      read .0,
-      reading-stored (before .inv .3) (omega (arith, more, start .pre .0 .count)) (omega (arith, more, start .pre .1 .0 .few)) (start .pre .1 .0 .usages-length) (read .1) (c .before .before .before .before .store-line .ensures .0) (c .before .before .before .before .store-line .ensures .1 .0) (c .before .before .before .before .store-line .ensures .1 .1),
+      tested-pass lines (start .args .n) (before .inv .2) more (read .passes),
+      reading-stored (before .inv .3) (omega (arith, more, start .pre .0 .count)) (omega (arith, more, start .pre .1 .0 .few)) (start .pre .1 .0 .usages-length) (read .row) (stored .0) (stored .1 .0) (stored .1 .1),
       search needs,
+    )
+
+is-unformatted-requires : tie.Need-is-unformatted-requires Inv-loop μ-loop
+is-unformatted-requires c κs = let l = line (c .before .before .before .before .before .before .before .before) in (l .low, l .high)
+
+none-after-format-requires-2 : tie.Need-none-after-format-requires-2 Inv-loop μ-loop
+none-after-format-requires-2 c κs = search needs
+
+same-length : tie.Need-same-length Inv-loop μ-loop
+same-length c = c .before .before .before .before .before .before .before .before .before .before .before .before .loop .inv .3 .numbers .size ∙ sym (c .before .before .before .before .before .before .before .before .before .before .before .before .before .before .before .before .before .before .before .before .before .before .before .pre .1 .0 .words-length)
+
+same-length-2 : tie.Need-same-length-2 Inv-loop μ-loop
+same-length-2 c = c .before .before .before .before .before .before .before .before .before .before .before .before .loop .inv .3 .charge .size
+
+same-length-3 : tie.Need-same-length-3 Inv-loop μ-loop
+same-length-3 c = c .before .before .before .before .before .before .before .before .before .before .before .before .loop .inv .3 .usage .size
+
+returns-2 : tie.Need-returns-2 Inv-loop μ-loop
+returns-2 c =
+    let start = c .before .before .before .before .before .before .before .before .before .before .before .before .before .before .before .before .before .before .before .before .before .before .before in
+    let bad = sym (ap unformatted (line (c .before .before .before .before .before .before .before .before .before .before .before) .same)) ∙ sym (c .before .before .is-unformatted .ensures) ∙ c .before .if3 .taken in
+    let more = c .before .before .before .before .before .before .before .before .before .before .before .loop-test .taken in (
+      tested-here (linesOf (now (start .args .file))) (start .args .n) (c .before .before .before .before .before .before .before .before .before .before .before .before .loop .inv .2) more (start .pre .0 .count) bad (c .none-after-format2 .ensures .0),
+      λ e. absurd (omega (arith, more, start .pre .0 .count, c .none-after-format2 .ensures .0, e)),
+    )
+
+after-failing-requires : tie.Need-after-failing-requires Inv-loop μ-loop
+after-failing-requires c κs = (c .before .before .before .before .before .before .before .before .before .before .before .before .before .before .before .before .before .before .before .before .before .before .pre .0, c .before .before .before .before .before .before .before .before .before .before .loop-test .taken)
+
+slice-aggregate-row-at : tie.Need-slice-aggregate-row-at Inv-loop μ-loop
+slice-aggregate-row-at c = let days = c .before .before .before .before .before .before .before .before .before .before .before .before .before .before .before .before .before .first-days in search needs
+
+row-at-requires : tie.Need-row-at-requires Inv-loop μ-loop
+row-at-requires c κs = let l = line (c .before .before .before .before .before .before .before .before .before .before .before .before) in (c .before .before .before .before .before .before .before .before .before .before .before .before .before .before .before .before .before .first-days .ensures, (l .low, l .high))
+
+store-line-requires-2 : tie.Need-store-line-requires-2 Inv-loop μ-loop
+store-line-requires-2 c κs =
+    let start = c .before .before .before .before .before .before .before .before .before .before .before .before .before .before .before .before .before .before .before .before .before .before .before .before .before .before .before .before in
+    let reading = c .before .before .before .before .before .before .before .before .before .before .before .before .before .before .before .before .before .loop .inv .3 in (
+      omega (arith, c .before .before .before .before .before .before .before .before .before .before .before .before .before .before .before .before .loop-test .taken, start .pre .1 .0 .few, reading .charge .size),
+      omega (arith, start .pre .1 .1, reading .charge .size),
+      omega (arith, reading .numbers .size, reading .charge .size),
+      omega (arith, reading .usage .size, reading .charge .size, start .pre .1 .0 .usages-length),
+    )
+
+add-i-2 : tie.Need-add-i-2 Inv-loop μ-loop
+add-i-2 c = record { fits = omega (arith, c .before .before .before .before .before .before .before .before .before .before .before .before .before .before .before .before .before .before .before .before .before .loop-test .taken, c .before .before .before .before .before .before .before .before .before .before .before .before .before .before .before .before .before .before .before .before .before .before .before .before .before .before .before .before .before .before .before .before .before .pre .1 .0 .few, c .before .before .before .before .before .before .before .before .before .before .before .before .before .before .before .before .before .before .before .before .before .before .before .before .before .before .before .before .before .before .before .before .before .pre .1 .1) }
+
+loop-less-2 : tie.Need-loop-less-2 Inv-loop μ-loop
+loop-less-2 c = omega (arith, c .before .before .before .before .before .before .before .before .before .before .before .before .before .before .before .before .before .before .before .before .before .loop-test .taken)
+
+loop-again-2 : tie.Need-loop-again-2 Inv-loop μ-loop
+loop-again-2 c =
+    let before = c .before .before .before .before .before .before .before .before .before .before .before .before .before .before .before .before .before .before .before .before .before .before .loop in
+    let start = c .before .before .before .before .before .before .before .before .before .before .before .before .before .before .before .before .before .before .before .before .before .before .before .before .before .before .before .before .before .before .before .before .before in
+    let lines = linesOf (now (start .args .file)) in
+    let more = c .before .before .before .before .before .before .before .before .before .before .before .before .before .before .before .before .before .before .before .before .before .loop-test .taken in
+    let here = line (c .before .before .before .before .before .before .before .before .before .before .before .before .before .before .before .before .before .before .before .before .before) .same in
+    let stored = c .before .before .before .before .store-line2 .ensures in
+    let formatted = sym (ap unformatted here) ∙ sym (c .before .before .before .before .before .before .before .before .before .before .before .before .is-unformatted .ensures) ∙ c .before .before .before .before .before .before .before .before .before .before .before .if3 .left in
+    let read = subst (λ (l : List ℕ). RowRead l (c .before .before .before .before .before .before .before .before .row-at .result)) here (c .before .before .before .before .before .before .before .before .row-at .ensures) in (
+      omega (arith, more),
+      before .inv .1,
+      tested-failing lines (start .args .n) (before .inv .2) more formatted (rw (before .inv .1) at (c .before .before .before .before .before .before .before .before .before .before .after-failing .ensures)),
+      reading-stored (before .inv .3) (omega (arith, more, start .pre .0 .count)) (omega (arith, more, start .pre .1 .0 .few)) (start .pre .1 .0 .usages-length) read (stored .0) (stored .1 .0) (stored .1 .1),
+      (let kept = c .before .before .before .before .before .before .before .before .before .before .before .before .before .before .before .read-line .kept in let size = before .inv .4 in search needs),
     )
 
 same-length-4 : tie.Need-same-length-4 Inv-loop μ-loop
@@ -228,6 +243,10 @@ read-lines-spec =
     part-read-line-end
     slice-aggregate-read-line-2
     read-line-requires
+    store-line-requires
+    add-i
+    loop-less
+    loop-again
     is-unformatted-requires
     none-after-format-requires-2
     same-length
@@ -237,10 +256,10 @@ read-lines-spec =
     after-failing-requires
     slice-aggregate-row-at
     row-at-requires
-    store-line-requires
-    add-i
-    loop-less
-    loop-again
+    store-line-requires-2
+    add-i-2
+    loop-less-2
+    loop-again-2
     same-length-4
     same-length-5
     same-length-6
