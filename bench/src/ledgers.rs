@@ -1,13 +1,27 @@
-//! The ledgers that soundness is timed on. All are sound.
+//! The ledgers that soundness is timed on: sound ones, some of them made to hurt, and one with an entry at fault.
 
 use reference::bill::Commodity;
 use reference::file::RecordType;
 use reference::generate::draft::{Draft, DraftRecord};
 use reference::generate::{Generator, Request, Style};
 use reference::ledger::Entry;
+use std::collections::HashMap;
 
 /// The senders of the files, who use the same Record IDs.
 const SENDERS: [u64; 3] = [40, 41, 7_000];
+
+/// How many buckets the proved code's hash table has for the keys of more than 1,024 entries.
+const BUCKETS: u64 = 16_384;
+
+/// IDs have at most 15 digits.
+const RECORD_ID_LIMIT: u64 = 1_000_000_000_000_000;
+
+/// The bucket of a sender and a Record ID in the proved code's hash table.
+fn bucket(sender: u64, record_id: u64) -> u64 {
+    let key = (sender << 50) + record_id;
+    let folded = key % (1 << 32) + key / (1 << 32);
+    (folded * 2_135_587_861 / 2) % (1 << 32) * BUCKETS / (1 << 32)
+}
 
 /// Draws ledgers, each another one.
 pub struct Ledgers {
@@ -33,6 +47,39 @@ impl Ledgers {
                 used += self.generator.book_draft(&draft, &mut run, used);
             }
         }
+        run
+    }
+
+    /// As `full`, with all sender and Record ID pairs in one bucket of the proved code's hash table.
+    pub fn in_one_bucket(&mut self, entries: usize) -> Vec<Entry> {
+        let mut run = self.full(entries);
+        let random = &mut self.generator.random;
+        let only = random.below(BUCKETS);
+        let mut replacements: HashMap<(u64, u64), u64> = HashMap::new();
+        let mut replace = |sender: u64, record_id: u64| {
+            let draw = || loop {
+                let record_id = random.below(RECORD_ID_LIMIT);
+                if bucket(sender, record_id) == only {
+                    return record_id;
+                }
+            };
+            *replacements.entry((sender, record_id)).or_insert_with(draw)
+        };
+        for entry in &mut run {
+            entry.record_id = replace(entry.sender, entry.record_id);
+            if entry.cancelled_id != 0 {
+                entry.cancelled_id = replace(entry.sender, entry.cancelled_id);
+            }
+        }
+        run
+    }
+
+    /// As `full`, but the last entry has the sender and Record ID of the first.
+    pub fn with_a_repeated_key(&mut self, entries: usize) -> Vec<Entry> {
+        let mut run = self.full(entries);
+        let (sender, record_id) = (run[0].sender, run[0].record_id);
+        let last = run.last_mut().expect("the ledger has entries");
+        (last.sender, last.record_id) = (sender, record_id);
         run
     }
 

@@ -4,7 +4,7 @@
 //!
 //! `cargo run --release --offline -- profile SIDE N` calls one side N times on one input and prints nothing, for a profiler. SIDE
 //! is `proved-check` or `reference-check` (a file of 4,096 lines), `proved-soundness` or `reference-soundness` (a ledger of 8,192
-//! entries). The instructions of a call are those of N = 11 without those of N = 1, divided by 10:
+//! entries), or one of these two with `-of-1000` at its end (a ledger of 1,000 entries). The instructions of a call are those of N = 11 without those of N = 1, divided by 10:
 //! `valgrind --tool=callgrind target/release/bench profile reference-check 11`.
 
 mod files;
@@ -105,8 +105,7 @@ fn proved_sound(ledger: &Ledger) -> bool {
     ledger.words.sound(ledger.run.len(), ledger.run.len())
 }
 
-fn draw_ledger(ledgers: &mut Ledgers, entries: usize) -> Ledger {
-    let run = ledgers.full(entries);
+fn ledger_of(run: Vec<Entry>) -> Ledger {
     let mut words = proved::Words::new();
     words.fill(&run);
     Ledger { run, words }
@@ -115,22 +114,29 @@ fn draw_ledger(ledgers: &mut Ledgers, entries: usize) -> Ledger {
 fn report_soundness() {
     let mut ledgers = Ledgers::new();
     let [smallest, _, largest] = ENTRIES.map(|entries| {
-        let medians = medians(|| draw_ledger(&mut ledgers, entries), true, proved_sound, reference_sound);
+        let medians = medians(|| ledger_of(ledgers.full(entries)), true, proved_sound, reference_sound);
         report(&format!("soundness, {entries} entries"), &medians);
         medians
     });
     report_growth("soundness, from 1000 to 8192 entries", &smallest, &largest);
+    let repeated = || ledger_of(ledgers.with_a_repeated_key(8_192));
+    report("soundness, 8192 entries, the last with a key of another", &medians(repeated, false, proved_sound, reference_sound));
+    let one_bucket = || ledger_of(ledgers.in_one_bucket(8_192));
+    report("soundness, 8192 entries, keys in one bucket", &medians(one_bucket, true, proved_sound, reference_sound));
 }
 
 /// Calls one side so many times on one input.
 fn profile(side: &str, calls: usize) {
     let file = || Files::new().many_sites(4_096, Ids::Rising);
-    let ledger = || draw_ledger(&mut Ledgers::new(), 8_192);
+    let ledger = || ledger_of(Ledgers::new().full(8_192));
+    let small_ledger = || ledger_of(Ledgers::new().full(1_000));
     match side {
         "proved-check" => repeat(calls, &file(), |file| proved_check(file)),
         "reference-check" => repeat(calls, &file(), |file| reference_check(file)),
         "proved-soundness" => repeat(calls, &ledger(), proved_sound),
         "reference-soundness" => repeat(calls, &ledger(), reference_sound),
+        "proved-soundness-of-1000" => repeat(calls, &small_ledger(), proved_sound),
+        "reference-soundness-of-1000" => repeat(calls, &small_ledger(), reference_sound),
         _ => panic!("no side is called {side}"),
     }
 }
