@@ -3,8 +3,9 @@
 //! `cargo run --release --offline` times both sides in one run: medians of 11, each on a fresh input, and their ratios.
 //!
 //! `cargo run --release --offline -- profile SIDE N` calls one side N times on one input and prints nothing, for a profiler. SIDE
-//! is `proved-check` or `reference-check` (a file of 4,096 lines), `proved-soundness` or `reference-soundness` (a ledger of 8,192
-//! entries), or one of these two with `-of-1000` at its end (a ledger of 1,000 entries). The instructions of a call are those of N = 11 without those of N = 1, divided by 10:
+//! is `proved-check` or `reference-check` (a file of 4,096 lines and many sites), one of these two with `-of-one-site` at its end,
+//! `proved-soundness` or `reference-soundness` (a ledger of 8,192 entries), or one of these two with `-of-1000` at its end (a ledger
+//! of 1,000 entries). The instructions of a call are those of N = 11 without those of N = 1, divided by 10:
 //! `valgrind --tool=callgrind target/release/bench profile reference-check 11`.
 
 mod files;
@@ -128,11 +129,14 @@ fn report_soundness() {
 /// Calls one side so many times on one input.
 fn profile(side: &str, calls: usize) {
     let file = || Files::new().many_sites(4_096, Ids::Rising);
+    let one_site = || Files::new().one_site(4_096, 1_000);
     let ledger = || ledger_of(Ledgers::new().full(8_192));
     let small_ledger = || ledger_of(Ledgers::new().full(1_000));
     match side {
         "proved-check" => repeat(calls, &file(), |file| proved_check(file)),
         "reference-check" => repeat(calls, &file(), |file| reference_check(file)),
+        "proved-check-of-one-site" => repeat(calls, &one_site(), |file| proved_check(file)),
+        "reference-check-of-one-site" => repeat(calls, &one_site(), |file| reference_check(file)),
         "proved-soundness" => repeat(calls, &ledger(), proved_sound),
         "reference-soundness" => repeat(calls, &ledger(), reference_sound),
         "proved-soundness-of-1000" => repeat(calls, &small_ledger(), proved_sound),

@@ -1,16 +1,26 @@
 // Tests 3 and 5: each field fits its type, and is filled where it must be.
 // Each answers the place of the first record that fails, or the number of records, of the lines that stand at the first n places.
 ghost use mathlib.Core.Path.{_≡_};
+ghost use Rattle.calendar.specs.Calendar.{firstDays};
 ghost use Rattle.text.specs.Text.{placedLines, LinesPlaced};
+ghost use Rattle.tables.specs.Tables.{joined};
+ghost use Rattle.field_types.specs.Codes.{codeRows};
 ghost use Rattle.format.specs.Format.{firstUnfit, firstUnfilled};
 ghost use Rattle.field_tests.specs.Steps.{misfilled, unfilledAt};
 
-// Test 3: record by record and field by field, and stops at the first that fails.
-pub fn first_unfit(file: &[u8], starts: &[usize], ends: &[usize], n: usize) -> usize
+// Test 3: record by record and field by field, and stops at the first that fails. The calendar's table and the tables' codes are lent.
+pub fn first_unfit(
+    days: &[u64],
+    codes: &[usize],
+    file: &[u8],
+    starts: &[usize],
+    ends: &[usize],
+    n: usize,
+) -> usize
+    requires { ⌜ (now days ≡ firstDays) × (now codes ≡ joined codeRows) ⌝ }
     requires { ⌜ LinesPlaced (now file) n (now starts) (now ends) ⌝ }
     ensures { λ r. ⌜ r ≡ firstUnfit (placedLines (now (file .entry)) n (now (starts .entry)) (now (ends .entry))) ⌝ }
 {
-    let table = calendar::first_days();
     let mut i: usize = 0;
     'records: while i < n {
         let a = starts[i];
@@ -22,7 +32,7 @@ pub fn first_unfit(file: &[u8], starts: &[usize], ends: &[usize], n: usize) -> u
         while k < count {
             let b = r.starts[k];
             let f = r.ends[k];
-            if !fields::fits(&table, field_types::field_type(record_type, k), &file[b..f]) {
+            if !fields::fits(days, field_types::field_type(codes, record_type, k), &file[b..f]) {
                 break 'records;
             }
             k += 1;

@@ -8,6 +8,7 @@ use lib.ListN.{getD, List·getD-map}
 use Rattle.fields.specs.declared.FieldType.{FieldType}
 use Rattle.fields.specs.declared.FieldType.the-variants.{RecordId}
 use Rattle.tables.specs.Tables.{typeRows, fieldType}
+use Rattle.tables.proofs.Laws.{RowsOf}
 use Rattle.field_types.specs.Codes.{codeRows, typeOfCode}
 
 typesOf : List ℕ → List FieldType
@@ -28,3 +29,6 @@ code-read type k =
 pub row-type : (type k : ℕ) → type < 9 → k < 19 → typeOfCode (getD (getD codeRows type []) k 0) ≡ fieldType type k
 unfolding fieldType
 row-type type k h l = code-read type k ∙ rw (lt-ltb type 9 h, lt-ltb k 19 l)
+
+pub codes-long : RowsOf 19 codeRows
+codes-long = (refl, (refl, (refl, (refl, (refl, (refl, (refl, (refl, (refl, tt)))))))))

@@ -1,9 +1,6 @@
 // The type of each field of each record type, as Tables 4-2 to 4-10 have it.
 ghost use mathlib.Core.Path.{_≡_};
-ghost use mathlib.Core.List.{[]};
-ghost use Prim.Native.Nat.{_<_};
-ghost use lib.ListN.{getD};
-ghost use Rattle.tables.specs.Tables.{fieldType};
+ghost use Rattle.tables.specs.Tables.{fieldType, joined};
 ghost use Rattle.field_types.specs.Codes.{codeRows, typeOfCode};
 use fields::FieldType;
 
@@ -64,9 +61,9 @@ const VARCHAR_20: usize = 398336;
 
 const VARCHAR_50: usize = 406016;
 
-// The code of the type of each field of a record type. A type has a table of its own, since a table is put onto the stack where it is read.
-// Table 4-2
-const FH_CODES: [usize; 19] = [
+// The code of the type of each field of each record type: 19 codes a type, as the longest table has.
+const CODES: [usize; 171] = [
+    // Table 4-2, FH
     RECORD_ID,
     RECORD_ID,
     CHAR_2,
@@ -86,10 +83,7 @@ const FH_CODES: [usize; 19] = [
     RECORD_ID,
     RECORD_ID,
     RECORD_ID,
-];
-
-// Table 4-3
-const SH_CODES: [usize; 19] = [
+    // Table 4-3, SH
     RECORD_ID,
     RECORD_ID,
     CHAR_2,
@@ -109,10 +103,7 @@ const SH_CODES: [usize; 19] = [
     DATE_TIME,
     DIGITS_13,
     RECORD_ID,
-];
-
-// Table 4-4
-const TH_CODES: [usize; 19] = [
+    // Table 4-4, TH
     RECORD_ID,
     RECORD_ID,
     CHAR_2,
@@ -132,10 +123,7 @@ const TH_CODES: [usize; 19] = [
     RECORD_ID,
     RECORD_ID,
     RECORD_ID,
-];
-
-// Table 4-5
-const DU_CODES: [usize; 19] = [
+    // Table 4-5, DU
     RECORD_ID,
     RECORD_ID,
     CHAR_2,
@@ -155,10 +143,7 @@ const DU_CODES: [usize; 19] = [
     VARCHAR_4,
     RECORD_ID,
     RECORD_ID,
-];
-
-// Table 4-6
-const DD_CODES: [usize; 19] = [
+    // Table 4-6, DD
     RECORD_ID,
     RECORD_ID,
     CHAR_2,
@@ -178,10 +163,7 @@ const DD_CODES: [usize; 19] = [
     RECORD_ID,
     RECORD_ID,
     RECORD_ID,
-];
-
-// Table 4-7
-const DM_CODES: [usize; 19] = [
+    // Table 4-7, DM
     RECORD_ID,
     RECORD_ID,
     CHAR_2,
@@ -201,10 +183,7 @@ const DM_CODES: [usize; 19] = [
     RECORD_ID,
     RECORD_ID,
     RECORD_ID,
-];
-
-// Table 4-8
-const CH_CODES: [usize; 19] = [
+    // Table 4-8, CH
     RECORD_ID,
     RECORD_ID,
     CHAR_2,
@@ -224,10 +203,7 @@ const CH_CODES: [usize; 19] = [
     NUMBER_19_12,
     NUMBER_11_2,
     CHAR_1,
-];
-
-// Table 4-9
-const OC_CODES: [usize; 19] = [
+    // Table 4-9, OC
     RECORD_ID,
     RECORD_ID,
     CHAR_2,
@@ -247,10 +223,7 @@ const OC_CODES: [usize; 19] = [
     RECORD_ID,
     RECORD_ID,
     RECORD_ID,
-];
-
-// Table 4-10
-const FT_CODES: [usize; 19] = [
+    // Table 4-10, FT
     RECORD_ID,
     RECORD_ID,
     CHAR_2,
@@ -288,26 +261,16 @@ pub fn type_of_code(code: usize) -> FieldType
     }
 }
 
-// The codes of the types of the fields of a record of a type.
-pub fn codes_of(record_type: u64) -> [usize; 19]
-    requires { ⌜ record_type < 9 ⌝ }
-    ensures { λ r. ⌜ r ≡ getD codeRows record_type [] ⌝ }
+// The codes of the types of the fields of the record types, 19 a type. A constant is put onto the stack where it is named: who asks often has it lent.
+pub fn codes() -> [usize; 171]
+    ensures { λ r. ⌜ r ≡ joined codeRows ⌝ }
 {
-    match record_type {
-        0 => FH_CODES,
-        1 => SH_CODES,
-        2 => TH_CODES,
-        3 => DU_CODES,
-        4 => DD_CODES,
-        5 => DM_CODES,
-        6 => CH_CODES,
-        7 => OC_CODES,
-        _ => FT_CODES,
-    }
+    CODES
 }
 
-// The type of the field after k others of a record of a type.
-pub fn field_type(record_type: u64, k: usize) -> FieldType
+// The type of the field after k others of a record of a type, by the codes.
+pub fn field_type(codes: &[usize], record_type: u64, k: usize) -> FieldType
+    requires { ⌜ now codes ≡ joined codeRows ⌝ }
     ensures { λ r. ⌜ r ≡ fieldType record_type k ⌝ }
 {
     if 9 <= record_type {
@@ -316,6 +279,5 @@ pub fn field_type(record_type: u64, k: usize) -> FieldType
     if 19 <= k {
         return FieldType::RecordId;
     }
-    let codes = codes_of(record_type);
-    type_of_code(codes[k])
+    type_of_code(codes[record_type as usize * 19 + k])
 }

@@ -5,6 +5,7 @@ ghost use Prim.Native.Nat.{_≤_, _<_};
 ghost use lib.ListN.{length, getD};
 ghost use Rattle.lists.specs.Below.{someBelow};
 ghost use Rattle.text.specs.Text.{part};
+ghost use Rattle.types.specs.Types.{followTable};
 ghost use Rattle.format.specs.Format.{isPrintable, unformatted, misplaced, firstMisplaced};
 
 // Whether a byte of s is not 32 to 126, one byte after the other.
@@ -80,8 +81,9 @@ pub fn is_unformatted(file: &[u8], a: usize, e: usize) -> bool
     count != tables::field_count(record_type)
 }
 
-fn is_misplaced(types: &[u64], i: usize) -> bool
-    requires { ⌜ i < length (now types) ⌝ }
+// Whether the type at i may not stand there, by the table of which type may follow which.
+fn is_misplaced(table: &[[bool; 9]; 9], types: &[u64], i: usize) -> bool
+    requires { ⌜ (now table ≡ followTable) × (i < length (now types)) ⌝ }
     ensures { λ r. ⌜ r ≡ misplaced (now (types .entry)) i ⌝ }
 {
     let present = types[i];
@@ -93,16 +95,17 @@ fn is_misplaced(types: &[u64], i: usize) -> bool
     if i == 0 {
         return present != 0;
     }
-    !types::may_follow(types[i - 1], present)
+    !types::may_follow(table, types[i - 1], present)
 }
 
 // Test 4.
 pub fn first_misplaced(types: &[u64]) -> usize
     ensures { λ r. ⌜ r ≡ firstMisplaced (now (types .entry)) ⌝ }
 {
+    let table = types::follow_table();
     let mut i: usize = 0;
     while i < types.len() {
-        if is_misplaced(types, i) {
+        if is_misplaced(&table, types, i) {
             return i;
         }
         i += 1;

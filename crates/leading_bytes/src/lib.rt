@@ -26,14 +26,11 @@ pub fn leading_digits(s: &[u8]) -> Run
     let mut value: u64 = 0;
     let mut len: usize = 0;
     while len < n {
-        let b = s[len];
-        if b < 48 {
+        let digit = std::num::wrapping_sub_u64(lists::wide(s[len]), 48);
+        if 9 < digit {
             return Run { len, value };
         }
-        if 57 < b {
-            return Run { len, value };
-        }
-        value = value * 10 + lists::wide(b - 48);
+        value = value * 10 + digit;
         len += 1;
     }
     Run { len, value }

@@ -2,10 +2,13 @@
 // Where the answer is that they pass tests 3 and 5 and are as many as the type has, they do; otherwise nothing is known.
 ghost use mathlib.Core.Path.{_≡_};
 ghost use mathlib.Core.Bool.{true, cond, not};
+ghost use mathlib.Core.List.{[]};
 ghost use lib.Dec.{eqb};
 ghost use Prim.Native.Nat.{_≤_, _<_};
-ghost use lib.ListN.{length};
+ghost use lib.ListN.{length, getD};
 ghost use Rattle.calendar.specs.Calendar.{firstDays};
+ghost use Rattle.tables.specs.Tables.{markRows};
+ghost use Rattle.field_types.specs.Codes.{codeRows};
 ghost use Rattle.line_readings.specs.LineReadings.{ReadTo, IdsRead, HeadRead, NumbersRead};
 
 // A record's type, and where its fourth field begins.
@@ -89,19 +92,21 @@ pub fn read_head(line: &[u8], numbers: &mut [u64]) -> Head
 }
 
 // The fields of a record of a type from the fourth on, which begins at `next`: whether each passes tests 3 and 5, and they are as many as the type has.
+// `codes` and `marks` are those of the type's fields.
 pub fn read_fields(
     days: &[u64],
+    codes: &[usize],
+    marks: &[bool],
     line: &[u8],
     record_type: u64,
     next: usize,
     numbers: &mut [u64],
 ) -> bool
     requires { ⌜ (now days ≡ firstDays) × (length (now numbers) ≡ 24) × (record_type < 9) ⌝ }
+    requires { ⌜ (now codes ≡ getD codeRows record_type []) × (now marks ≡ getD markRows record_type []) ⌝ }
     requires { ⌜ ReadTo record_type (now line) 3 next (now numbers) ⌝ }
     ensures { λ r. ⌜ (r ≡ true → NumbersRead record_type (now (line .entry)) (now (numbers .exit))) ⌝ }
 {
-    let codes = field_types::codes_of(record_type);
-    let marks = tables::marks_of(record_type);
     let count = tables::field_count(record_type);
     let mut a = next;
     let mut k: usize = 3;

@@ -9,6 +9,8 @@ ghost use Rattle.text.specs.Text.{linesOf, part, Placed};
 ghost use Rattle.format.specs.Format.{lineAt, someField, unfit, unfilled, miscoded};
 ghost use Rattle.coded_fields.specs.Steps.{unitIf};
 ghost use Rattle.columns.specs.Columns.{Room, ColumnsRead};
+ghost use Rattle.tables.specs.Tables.{markRows, joined};
+ghost use Rattle.field_types.specs.Codes.{codeRows};
 ghost use Rattle.columns.specs.Rows.{RowStored};
 ghost use Rattle.line_readings.specs.LineReadings.{HeadRead, NumbersRead};
 ghost use Rattle.passing_lines.specs.Lines.{LinePasses, LineRead, firstAfter, LineAsked, LinesTested};
@@ -21,15 +23,18 @@ struct Line {
     row: Row,
 }
 
-// Whether a line passes tests 2, 3, 5 and 7, and then its numbers.
+// Whether a line passes tests 2, 3, 5 and 7, and then its numbers. The calendar's table and the tables' codes and marks are lent.
 fn line_passes(
     days: &[u64],
+    codes: &[usize],
+    marks: &[bool],
     line: &[u8],
     electricity: bool,
     head: Head,
     numbers: &mut [u64],
 ) -> bool
     requires { ⌜ (now days ≡ firstDays) × (length (now numbers) ≡ 24) × (head .record_type < 9) ⌝ }
+    requires { ⌜ (now codes ≡ joined codeRows) × (now marks ≡ joined markRows) ⌝ }
     requires { ⌜ HeadRead (now line) head (now numbers) ⌝ }
     ensures { λ r. ⌜ (r ≡ true → LinePasses (unitIf electricity) (now (line .entry)) × NumbersRead (head .record_type) (now (line .entry)) (now (numbers .exit))) ⌝ }
 {
@@ -38,7 +43,10 @@ fn line_passes(
     if format::has_unprintable(line) {
         return false;
     }
-    if !line_readings::read_fields(days, line, record_type, next, numbers) {
+    let a = record_type as usize * 19;
+    let codes = &codes[a..a + 19];
+    let marks = &marks[a..a + 19];
+    if !line_readings::read_fields(days, codes, marks, line, record_type, next, numbers) {
         return false;
     }
     codes_and_rows::codes_stand(record_type, numbers, electricity)
@@ -58,8 +66,16 @@ fn no_line() -> Line
 }
 
 // What is read of a line, each field once.
-fn read_line(days: &[u64], line: &[u8], electricity: bool, numbers: &mut [u64]) -> Line
+fn read_line(
+    days: &[u64],
+    codes: &[usize],
+    marks: &[bool],
+    line: &[u8],
+    electricity: bool,
+    numbers: &mut [u64],
+) -> Line
     requires { ⌜ (now days ≡ firstDays) × (length (now numbers) ≡ 24) ⌝ }
+    requires { ⌜ (now codes ≡ joined codeRows) × (now marks ≡ joined markRows) ⌝ }
     ensures { λ r. ⌜ (r .passes ≡ true → LineRead (unitIf electricity) (now (line .entry)) r) ⌝ }
 {
     let head = line_readings::read_head(line, numbers);
@@ -67,7 +83,7 @@ fn read_line(days: &[u64], line: &[u8], electricity: bool, numbers: &mut [u64]) 
     if 9 <= record_type {
         return no_line();
     }
-    if !line_passes(days, line, electricity, head, numbers) {
+    if !line_passes(days, codes, marks, line, electricity, head, numbers) {
         return no_line();
     }
     let row = codes_and_rows::row_of_numbers(record_type, numbers);
@@ -96,6 +112,8 @@ fn none_after_format(place: usize, n: usize) -> FirstLines
 
 // The first line that fails test 3, once line i is asked where none was found before.
 fn unfit_after(
+    days: &[u64],
+    codes: &[usize],
     file: &[u8],
     starts: &[usize],
     ends: &[usize],
@@ -104,12 +122,20 @@ fn unfit_after(
     first: usize,
 ) -> usize
     requires { ⌜ Placed (now file) n (now starts) (now ends) (linesOf (now file)) × (i < n) ⌝ }
+    requires { ⌜ (now days ≡ firstDays) × (now codes ≡ joined codeRows) ⌝ }
     ensures { λ r. ⌜ r ≡ firstAfter (someField unfit (lineAt (linesOf (now (file .entry))) i)) first n i ⌝ }
 {
     if first != n {
         return first;
     }
-    if field_tests::first_unfit(file, &starts[i..i + 1], &ends[i..i + 1], 1) == 0 {
+    if field_tests::first_unfit(
+        days,
+        codes,
+        file,
+        &starts[i..i + 1],
+        &ends[i..i + 1],
+        1,
+    ) == 0 {
         return i;
     }
     n
@@ -160,6 +186,8 @@ fn miscoded_after(
 
 // The first lines that fail, once line i, which has its format, is asked what it fails.
 fn after_failing(
+    days: &[u64],
+    codes: &[usize],
     file: &[u8],
     starts: &[usize],
     ends: &[usize],
@@ -169,11 +197,12 @@ fn after_failing(
     firsts: FirstLines,
 ) -> FirstLines
     requires { ⌜ Placed (now file) n (now starts) (now ends) (linesOf (now file)) × (i < n) ⌝ }
+    requires { ⌜ (now days ≡ firstDays) × (now codes ≡ joined codeRows) ⌝ }
     ensures { λ r. ⌜ LineAsked (unitIf electricity) (lineAt (linesOf (now (file .entry))) i) n i firsts r ⌝ }
 {
     let a = starts[i];
     let e = ends[i];
-    let unfit = unfit_after(file, starts, ends, n, i, firsts.unfit);
+    let unfit = unfit_after(days, codes, file, starts, ends, n, i, firsts.unfit);
     let unfilled = unfilled_after(file, starts, ends, n, i, firsts.unfilled);
     let miscoded = miscoded_after(file, a, e, electricity, n, i, firsts.miscoded);
     FirstLines {
@@ -199,8 +228,73 @@ fn store_line(words: &mut [u64], charges: &mut [i64], usages: &mut [i64], i: usi
     usages[i] = usage;
 }
 
-// Reads each of n lines once, into the columns, and asks those that do not pass which tests they fail.
+// Reads each of n lines once, into the columns, and asks those that do not pass which tests they fail. The tables are lent.
 // It leaves at the first line that fails test 2: the other tests are asked of lines that have their format.
+fn read_lines_lent(
+    days: &[u64],
+    codes: &[usize],
+    marks: &[bool],
+    file: &[u8],
+    starts: &[usize],
+    ends: &[usize],
+    n: usize,
+    words: &mut [u64],
+    charges: &mut [i64],
+    usages: &mut [i64],
+) -> FirstLines
+    requires { ⌜ Placed (now file) n (now starts) (now ends) (linesOf (now file)) ⌝ }
+    requires { ⌜ Room n (now words) (now charges) (now usages) × (length (now charges) ≤ 4096) ⌝ }
+    requires { ⌜ (now days ≡ firstDays) × (now codes ≡ joined codeRows) × (now marks ≡ joined markRows) ⌝ }
+    ensures { λ r. ⌜ LinesTested (linesOf (now (file .entry))) r ⌝ }
+    ensures { λ r. ⌜ (r .unformatted ≡ length (linesOf (now (file .entry))) → ColumnsRead (linesOf (now (file .entry))) (now (words .exit)) (now (charges .exit)) (now (usages .exit))) ⌝ }
+{
+    let mut firsts = none_after_format(n, n);
+    if n == 0 {
+        return firsts;
+    }
+    let electricity = coded_fields::is_electric(file, starts[0], ends[0]);
+    let mut numbers = [0u64; 24];
+    let mut i: usize = 0;
+    while i < n {
+        let a = starts[i];
+        let e = ends[i];
+        let line = read_line(
+            days,
+            codes,
+            marks,
+            &file[a..e],
+            electricity,
+            &mut numbers,
+        );
+        let passes = line.passes;
+        if passes {
+            let row = line.row;
+            store_line(words, charges, usages, i, row);
+            i += 1;
+        } else {
+            if format::is_unformatted(file, a, e) {
+                return none_after_format(i, n);
+            }
+            firsts = after_failing(
+                days,
+                codes,
+                file,
+                starts,
+                ends,
+                n,
+                i,
+                electricity,
+                firsts,
+            );
+            let row = columns::row_at(days, file, a, e);
+            store_line(words, charges, usages, i, row);
+            i += 1;
+        }
+    }
+    firsts
+}
+
+// Reads each of n lines once, into the columns, and answers the first line that fails each of tests 2, 3, 5 and 7.
 pub fn read_lines(
     file: &[u8],
     starts: &[usize],
@@ -215,32 +309,19 @@ pub fn read_lines(
     ensures { λ r. ⌜ LinesTested (linesOf (now (file .entry))) r ⌝ }
     ensures { λ r. ⌜ (r .unformatted ≡ length (linesOf (now (file .entry))) → ColumnsRead (linesOf (now (file .entry))) (now (words .exit)) (now (charges .exit)) (now (usages .exit))) ⌝ }
 {
-    let mut firsts = none_after_format(n, n);
-    if n == 0 {
-        return firsts;
-    }
     let days = calendar::first_days();
-    let electricity = coded_fields::is_electric(file, starts[0], ends[0]);
-    let mut numbers = [0u64; 24];
-    let mut i: usize = 0;
-    while i < n {
-        let a = starts[i];
-        let e = ends[i];
-        let line = read_line(&days, &file[a..e], electricity, &mut numbers);
-        let passes = line.passes;
-        if passes {
-            let row = line.row;
-            store_line(words, charges, usages, i, row);
-            i += 1;
-        } else {
-            if format::is_unformatted(file, a, e) {
-                return none_after_format(i, n);
-            }
-            firsts = after_failing(file, starts, ends, n, i, electricity, firsts);
-            let row = columns::row_at(&days, file, a, e);
-            store_line(words, charges, usages, i, row);
-            i += 1;
-        }
-    }
-    firsts
+    let codes = field_types::codes();
+    let marks = tables::marks();
+    read_lines_lent(
+        &days,
+        &codes,
+        &marks,
+        file,
+        starts,
+        ends,
+        n,
+        words,
+        charges,
+        usages,
+    )
 }

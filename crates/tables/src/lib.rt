@@ -1,16 +1,10 @@
 // What Tables 4-2 to 4-10 say of each record type: how many fields it has, and which are marked Mandatory.
 ghost use mathlib.Core.Path.{_≡_};
-ghost use mathlib.Core.List.{[]};
-ghost use Prim.Native.Nat.{_<_};
-ghost use lib.ListN.{getD};
-ghost use Rattle.tables.specs.Tables.{fieldCount, markRows, isMandatory};
+ghost use Rattle.tables.specs.Tables.{fieldCount, markRows, joined, isMandatory};
 
-// How many fields a record of each type has.
-const COUNTS: [usize; 9] = [9, 18, 14, 17, 15, 10, 19, 11, 5];
-
-// Whether each field of a record type is marked Mandatory. A type has a table of its own, since a table is put onto the stack where it is read.
-// Table 4-2
-const FH_MARKS: [bool; 19] = [
+// Whether each field of each record type is marked Mandatory: 19 marks a type, as the longest table has.
+const MARKS: [bool; 171] = [
+    // Table 4-2, FH
     true,
     true,
     true,
@@ -30,10 +24,7 @@ const FH_MARKS: [bool; 19] = [
     false,
     false,
     false,
-];
-
-// Table 4-3
-const SH_MARKS: [bool; 19] = [
+    // Table 4-3, SH
     true,
     true,
     true,
@@ -53,10 +44,7 @@ const SH_MARKS: [bool; 19] = [
     false,
     false,
     false,
-];
-
-// Table 4-4
-const TH_MARKS: [bool; 19] = [
+    // Table 4-4, TH
     true,
     true,
     true,
@@ -76,10 +64,7 @@ const TH_MARKS: [bool; 19] = [
     false,
     false,
     false,
-];
-
-// Table 4-5
-const DU_MARKS: [bool; 19] = [
+    // Table 4-5, DU
     true,
     true,
     true,
@@ -99,10 +84,7 @@ const DU_MARKS: [bool; 19] = [
     true,
     false,
     false,
-];
-
-// Table 4-6
-const DD_MARKS: [bool; 19] = [
+    // Table 4-6, DD
     true,
     true,
     true,
@@ -122,10 +104,7 @@ const DD_MARKS: [bool; 19] = [
     false,
     false,
     false,
-];
-
-// Table 4-7
-const DM_MARKS: [bool; 19] = [
+    // Table 4-7, DM
     true,
     true,
     true,
@@ -145,10 +124,7 @@ const DM_MARKS: [bool; 19] = [
     false,
     false,
     false,
-];
-
-// Table 4-8
-const CH_MARKS: [bool; 19] = [
+    // Table 4-8, CH
     true,
     true,
     true,
@@ -168,10 +144,7 @@ const CH_MARKS: [bool; 19] = [
     true,
     true,
     true,
-];
-
-// Table 4-9
-const OC_MARKS: [bool; 19] = [
+    // Table 4-9, OC
     true,
     true,
     true,
@@ -191,10 +164,7 @@ const OC_MARKS: [bool; 19] = [
     false,
     false,
     false,
-];
-
-// Table 4-10
-const FT_MARKS: [bool; 19] = [
+    // Table 4-10, FT
     true,
     true,
     true,
@@ -220,28 +190,25 @@ const FT_MARKS: [bool; 19] = [
 pub fn field_count(record_type: u64) -> usize
     ensures { λ r. ⌜ r ≡ fieldCount record_type ⌝ }
 {
-    if 9 <= record_type {
-        return 0;
+    match record_type {
+        0 => 9,
+        1 => 18,
+        2 => 14,
+        3 => 17,
+        4 => 15,
+        5 => 10,
+        6 => 19,
+        7 => 11,
+        8 => 5,
+        _ => 0,
     }
-    COUNTS[record_type as usize]
 }
 
-// Whether the fields of a record of a type are marked Mandatory.
-pub fn marks_of(record_type: u64) -> [bool; 19]
-    requires { ⌜ record_type < 9 ⌝ }
-    ensures { λ r. ⌜ r ≡ getD markRows record_type [] ⌝ }
+// Whether the fields of the record types are marked Mandatory, 19 a type. A constant is put onto the stack where it is named: who asks often has it lent.
+pub fn marks() -> [bool; 171]
+    ensures { λ r. ⌜ r ≡ joined markRows ⌝ }
 {
-    match record_type {
-        0 => FH_MARKS,
-        1 => SH_MARKS,
-        2 => TH_MARKS,
-        3 => DU_MARKS,
-        4 => DD_MARKS,
-        5 => DM_MARKS,
-        6 => CH_MARKS,
-        7 => OC_MARKS,
-        _ => FT_MARKS,
-    }
+    MARKS
 }
 
 // Whether the field after k others of a record of a type is marked Mandatory.
@@ -254,6 +221,5 @@ pub fn is_mandatory(record_type: u64, k: usize) -> bool
     if 19 <= k {
         return false;
     }
-    let marks = marks_of(record_type);
-    marks[k]
+    MARKS[record_type as usize * 19 + k]
 }

@@ -1,6 +1,6 @@
 // The nine record types, counted from 0: FH, SH, TH, DU, DD, DM, CH, OC, FT.
 ghost use mathlib.Core.Path.{_≡_};
-ghost use Rattle.types.specs.Types.{typeNamed, mayFollow, parentType};
+ghost use Rattle.types.specs.Types.{typeNamed, followTable, mayFollow, parentType};
 
 // Whether the type of the column may follow the type of the row.
 const FOLLOWS: [[bool; 9]; 9] = [
@@ -55,8 +55,16 @@ pub fn type_named(s: &[u8]) -> u64
     }
 }
 
-// Whether a record of the present type may follow one of the previous type.
-pub fn may_follow(previous: u64, present: u64) -> bool
+// The table of which type may follow which. A constant is put onto the stack where it is named: who asks often has it lent.
+pub fn follow_table() -> [[bool; 9]; 9]
+    ensures { λ r. ⌜ r ≡ followTable ⌝ }
+{
+    FOLLOWS
+}
+
+// Whether a record of the present type may follow one of the previous type, by the table.
+pub fn may_follow(table: &[[bool; 9]; 9], previous: u64, present: u64) -> bool
+    requires { ⌜ now table ≡ followTable ⌝ }
     ensures { λ r. ⌜ r ≡ mayFollow previous present ⌝ }
 {
     if 9 <= previous {
@@ -65,7 +73,7 @@ pub fn may_follow(previous: u64, present: u64) -> bool
     if 9 <= present {
         return false;
     }
-    FOLLOWS[previous as usize][present as usize]
+    table[previous as usize][present as usize]
 }
 
 // The type of the record that a record of a type hangs under; FH, which has none, has 9.

@@ -16,26 +16,23 @@ use Rattle.field_tests.proofs.first_unfit.Statement.{statement}
 use Rattle.field_tests.proofs.first_unfit.Tie as tie
 
 abbrev Inv-loop : tie.InvT-loop
-Inv-loop file starts ends n table i a e r record-type count k₀ k = (k ≤ count) × RecordFound file (lineAt (placedLines file n starts ends) i) r × PassedFields unfit (placedLines file n starts ends) i k
+Inv-loop days codes file starts ends n i a e r record-type count k₀ k = (k ≤ count) × RecordFound file (lineAt (placedLines file n starts ends) i) r × PassedFields unfit (placedLines file n starts ends) i k
 
 abbrev μ-loop : tie.MeasureT-loop
-μ-loop file starts ends n table i a e r record-type count k₀ k = count - k
+μ-loop days codes file starts ends n i a e r record-type count k₀ k = count - k
 
 abbrev Inv-records : tie.InvT-records
-Inv-records file starts ends n table i₀ i = (i ≤ n) × PassedLines unfit (placedLines file n starts ends) i
+Inv-records days codes file starts ends n i₀ i = (i ≤ n) × PassedLines unfit (placedLines file n starts ends) i
 
 abbrev μ-records : tie.MeasureT-records
-μ-records file starts ends n table i₀ i = n - i
+μ-records days codes file starts ends n i₀ i = n - i
 
 -- the lines that stand at the places
 abbrev linesAt : tie.Start Inv-loop μ-loop Inv-records μ-records → List (List ℕ)
 linesAt c = placedLines (now (c .args .file)) (c .args .n) (now (c .args .starts)) (now (c .args .ends))
 
-first-days-requires : tie.Need-first-days-requires Inv-loop μ-loop Inv-records μ-records
-first-days-requires c κs = search needs
-
 records-holds : tie.Need-records-holds Inv-loop μ-loop Inv-records μ-records
-records-holds c = (omega arith, lines-none unfit (linesAt (c .before .before .before .before)))
+records-holds c = (omega arith, lines-none unfit (linesAt (c .before .before .before .before .before)))
 
 mul-a : tie.Need-mul-a Inv-loop μ-loop Inv-records μ-records
 mul-a c = search needs
@@ -50,10 +47,10 @@ shared-slice-read-e : tie.Need-shared-slice-read-e Inv-loop μ-loop Inv-records 
 shared-slice-read-e c = search needs
 
 record-at-requires : tie.Need-record-at-requires Inv-loop μ-loop Inv-records μ-records
-record-at-requires c κs = let l = placed-at (c .before .before .before .before .before .before .before .before .pre) (c .before .before .before .records .i) (c .before .before .records-test .taken) in (l .low, l .high)
+record-at-requires c κs = let l = placed-at (c .before .before .before .before .before .before .before .before .before .pre .1) (c .before .before .before .records .i) (c .before .before .records-test .taken) in (l .low, l .high)
 
 loop-holds : tie.Need-loop-holds Inv-loop μ-loop Inv-records μ-records
-loop-holds c = (omega arith, record-of (c .before .before .before .before .before .before .before .before .before .pre) (c .before .before .before .before .records .i) (c .before .before .before .records-test .taken) (c .record-at .ensures), fields-none unfit (linesAt (c .before .before .before .before .before .before .before .before .before)) (c .before .before .before .before .records .i))
+loop-holds c = (omega arith, record-of (c .before .before .before .before .before .before .before .before .before .before .pre .1) (c .before .before .before .before .records .i) (c .before .before .before .records-test .taken) (c .record-at .ensures), fields-none unfit (linesAt (c .before .before .before .before .before .before .before .before .before .before)) (c .before .before .before .before .records .i))
 
 mul-b : tie.Need-mul-b Inv-loop μ-loop Inv-records μ-records
 mul-b c = search needs
@@ -67,23 +64,20 @@ mul-f c = search needs
 element-copy-out-f : tie.Need-element-copy-out-f Inv-loop μ-loop Inv-records μ-records
 element-copy-out-f c = omega (arith, c .before .before .loop .inv .1 .ends, c .before .before .loop .inv .1 .few)
 
-slice-aggregate-fits : tie.Need-slice-aggregate-fits Inv-loop μ-loop Inv-records μ-records
-slice-aggregate-fits c = search needs
-
 field-type-requires : tie.Need-field-type-requires Inv-loop μ-loop Inv-records μ-records
-field-type-requires c κs = search needs
+field-type-requires c κs = c .before .before .before .before .before .before .before .before .before .before .before .before .before .before .pre .0 .1
 
 sub-fits : tie.Need-sub-fits Inv-loop μ-loop Inv-records μ-records
-sub-fits c = omega (arith, field-place (c .before .before .before .before .before .loop .inv .1) (c .before .before .before .before .before .loop .k) (c .before .before .before .before .loop-test .taken))
+sub-fits c = omega (arith, field-place (c .before .before .before .before .loop .inv .1) (c .before .before .before .before .loop .k) (c .before .before .before .loop-test .taken))
 
 part-fits-start : tie.Need-part-fits-start Inv-loop μ-loop Inv-records μ-records
-part-fits-start c = omega (arith, field-place (c .before .before .before .before .before .loop .inv .1) (c .before .before .before .before .before .loop .k) (c .before .before .before .before .loop-test .taken))
+part-fits-start c = omega (arith, field-place (c .before .before .before .before .loop .inv .1) (c .before .before .before .before .loop .k) (c .before .before .before .loop-test .taken))
 
 part-fits-end : tie.Need-part-fits-end Inv-loop μ-loop Inv-records μ-records
-part-fits-end c = omega (arith, field-place (c .before .before .before .before .before .loop .inv .1) (c .before .before .before .before .before .loop .k) (c .before .before .before .before .loop-test .taken))
+part-fits-end c = omega (arith, field-place (c .before .before .before .before .loop .inv .1) (c .before .before .before .before .loop .k) (c .before .before .before .loop-test .taken))
 
 fits-requires : tie.Need-fits-requires Inv-loop μ-loop Inv-records μ-records
-fits-requires c κs = c .before .before .before .before .before .before .before .before .before .before .before .before .first-days .ensures
+fits-requires c κs = c .before .before .before .before .before .before .before .before .before .before .before .before .before .before .before .before .pre .0 .0
 
 add-k : tie.Need-add-k Inv-loop μ-loop Inv-records μ-records
 add-k c = search needs
@@ -93,11 +87,11 @@ loop-less c = search needs
 
 loop-again : tie.Need-loop-again Inv-loop μ-loop Inv-records μ-records
 loop-again c =
-    let p = c .before .before .before .before .before .before .before .before .loop in (
+    let p = c .before .before .before .before .before .before .before .loop in (
       omega arith,
       p .inv .1,
-      fields-more unfit (linesAt (c .before .before .before .before .before .before .before .before .before .before .before .before .before .before .before .before .before .before)) (c .before .before .before .before .before .before .before .before .before .before .before .before .before .records .i) (p .inv .1) (p .k) (p .inv .2) (c .before .before .before .before .before .before .before .loop-test .taken)
-          (unfit-is (p .inv .1) (p .k) (c .before .before .before .before .before .before .before .loop-test .taken) (c .before .before .before .field-type .ensures) (c .before .fits2 .ensures) ∙ c .if1 .left),
+      fields-more unfit (linesAt (c .before .before .before .before .before .before .before .before .before .before .before .before .before .before .before .before .before .before)) (c .before .before .before .before .before .before .before .before .before .before .before .before .records .i) (p .inv .1) (p .k) (p .inv .2) (c .before .before .before .before .before .before .loop-test .taken)
+          (unfit-is (p .inv .1) (p .k) (c .before .before .before .before .before .before .loop-test .taken) (c .before .before .before .field-type .ensures) (c .before .fits2 .ensures) ∙ c .if1 .left),
     )
 
 add-i : tie.Need-add-i Inv-loop μ-loop Inv-records μ-records
@@ -110,17 +104,17 @@ records-again : tie.Need-records-again Inv-loop μ-loop Inv-records μ-records
 records-again c =
     let p = c .before .loop in (
       omega arith,
-      lines-more unfit (linesAt (c .before .before .before .before .before .before .before .before .before .before .before)) (c .before .before .before .before .before .before .records .i) (p .inv .1) (p .k) (p .inv .2) (omega (arith, c .before .before .before .before .before .before .before .before .before .before .before .pre .count)) (c .before .before .before .before .before .before .records .inv .1) (c .loop-test .left),
+      lines-more unfit (linesAt (c .before .before .before .before .before .before .before .before .before .before .before .before)) (c .before .before .before .before .before .before .records .i) (p .inv .1) (p .k) (p .inv .2) (omega (arith, c .before .before .before .before .before .before .before .before .before .before .before .before .pre .1 .count)) (c .before .before .before .before .before .before .records .inv .1) (c .loop-test .left),
     )
 
 returns : tie.Need-returns Inv-loop μ-loop Inv-records μ-records
-returns c = sym (lines-end unfit (linesAt (c .before .before .before .before .before .before)) (c .before .records .i) (omega (arith, c .before .before .before .before .before .before .pre .count)) (c .before .records .inv .1))
+returns c = sym (lines-end unfit (linesAt (c .before .before .before .before .before .before .before)) (c .before .records .i) (omega (arith, c .before .before .before .before .before .before .before .pre .1 .count)) (c .before .records .inv .1))
 
 returns-2 : tie.Need-returns-2 Inv-loop μ-loop Inv-records μ-records
 returns-2 c =
-    let p = c .before .before .before .before .before .before .before .before .loop in
-    sym (lines-here unfit (linesAt (c .before .before .before .before .before .before .before .before .before .before .before .before .before .before .before .before .before .before)) (c .before .before .before .before .before .before .before .before .before .before .before .before .before .records .i) (p .inv .1) (p .k) (p .inv .2) (omega (arith, c .before .before .before .before .before .before .before .before .before .before .before .before .before .before .before .before .before .before .pre .count)) (c .before .before .before .before .before .before .before .before .before .before .before .before .before .records .inv .1) (c .before .before .before .before .before .before .before .loop-test .taken)
-    (unfit-is (p .inv .1) (p .k) (c .before .before .before .before .before .before .before .loop-test .taken) (c .before .before .before .field-type .ensures) (c .before .fits2 .ensures) ∙ c .if1 .taken))
+    let p = c .before .before .before .before .before .before .before .loop in
+    sym (lines-here unfit (linesAt (c .before .before .before .before .before .before .before .before .before .before .before .before .before .before .before .before .before .before)) (c .before .before .before .before .before .before .before .before .before .before .before .before .records .i) (p .inv .1) (p .k) (p .inv .2) (omega (arith, c .before .before .before .before .before .before .before .before .before .before .before .before .before .before .before .before .before .before .pre .1 .count)) (c .before .before .before .before .before .before .before .before .before .before .before .before .records .inv .1) (c .before .before .before .before .before .before .loop-test .taken)
+    (unfit-is (p .inv .1) (p .k) (c .before .before .before .before .before .before .loop-test .taken) (c .before .before .before .field-type .ensures) (c .before .fits2 .ensures) ∙ c .if1 .taken))
 
 pub first-unfit-spec : {M : Type 1} → statement M
 first-unfit-spec =
@@ -130,7 +124,6 @@ first-unfit-spec =
     μ-loop
     Inv-records
     μ-records
-    first-days-requires
     records-holds
     mul-a
     shared-slice-read-a
@@ -142,7 +135,6 @@ first-unfit-spec =
     element-copy-out-b
     mul-f
     element-copy-out-f
-    slice-aggregate-fits
     field-type-requires
     sub-fits
     part-fits-start

@@ -12,13 +12,16 @@ use Rattle.format.proofs.first_misplaced.Statement.{statement}
 use Rattle.format.proofs.first_misplaced.Tie as tie
 
 abbrev Inv-loop : tie.InvT-loop
-Inv-loop types i₀ i = (i ≤ length types) × Searched (misplaced types) (length types) i
+Inv-loop types table i₀ i = (i ≤ length types) × Searched (misplaced types) (length types) i
 
 abbrev μ-loop : tie.MeasureT-loop
-μ-loop types i₀ i = length types - i
+μ-loop types table i₀ i = length types - i
+
+follow-table-requires : tie.Need-follow-table-requires Inv-loop μ-loop
+follow-table-requires c κs = search needs
 
 loop-holds : tie.Need-loop-holds Inv-loop μ-loop
-loop-holds c = let t = now (c .before .args .types) in (omega arith, searched-none (misplaced t) (length t))
+loop-holds c = let t = now (c .before .before .args .types) in (omega arith, searched-none (misplaced t) (length t))
 
 is-misplaced-requires : tie.Need-is-misplaced-requires Inv-loop μ-loop
 is-misplaced-requires c κs = search needs
@@ -26,8 +29,8 @@ is-misplaced-requires c κs = search needs
 returns : tie.Need-returns Inv-loop μ-loop
 unfolding firstMisplaced
 returns c =
-    let t = now (c .before .before .before .before .before .args .types) in
-    sym (searched-here (misplaced t) (length t) (c .before .before .before .loop .i) (c .before .before .loop-test .taken) (c .before .before .before .loop .inv .1) (sym (c .before .is-misplaced .ensures) ∙ c .if1 .taken))
+    let t = now (c .before .before .before .before .before .before .before .args .types) in
+    sym (searched-here (misplaced t) (length t) (c .before .before .before .before .loop .i) (c .before .before .before .loop-test .taken) (c .before .before .before .before .loop .inv .1) (sym (c .before .is-misplaced .ensures) ∙ c .if1 .taken))
 
 add-i : tie.Need-add-i Inv-loop μ-loop
 add-i c = search needs
@@ -37,13 +40,13 @@ loop-less c = search needs
 
 loop-again : tie.Need-loop-again Inv-loop μ-loop
 loop-again c =
-    let t = now (c .before .before .before .before .before .args .types) in
-    (omega arith, searched-more (misplaced t) (length t) (c .before .before .before .loop .i) (c .before .before .loop-test .taken) (c .before .before .before .loop .inv .1) (sym (c .before .is-misplaced .ensures) ∙ c .if1 .left))
+    let t = now (c .before .before .before .before .before .before .before .args .types) in
+    (omega arith, searched-more (misplaced t) (length t) (c .before .before .before .before .loop .i) (c .before .before .before .loop-test .taken) (c .before .before .before .before .loop .inv .1) (sym (c .before .is-misplaced .ensures) ∙ c .if1 .left))
 
 returns-2 : tie.Need-returns-2 Inv-loop μ-loop
 unfolding firstMisplaced
 returns-2 c =
-    let t = now (c .before .before .before .args .types) in
+    let t = now (c .before .before .before .before .args .types) in
     sym (searched-end (misplaced t) (length t) (c .before .loop .i) (c .loop-test .left) (c .before .loop .inv .1))
 
 pub first-misplaced-spec : {M : Type 1} → statement M
@@ -52,6 +55,7 @@ first-misplaced-spec =
     (tie.spec
     Inv-loop
     μ-loop
+    follow-table-requires
     loop-holds
     is-misplaced-requires
     returns

@@ -1,6 +1,6 @@
 -- `read_fields` meets its contract. The loop's invariant: the first k fields are read, and the others stand from a on.
 -- Assumes nothing.
-use mathlib.Core.Path.{_≡_, sym, _∙_, subst}
+use mathlib.Core.Path.{_≡_, sym, _∙_, ap, subst}
 use Prim.Native.Nat.{ℕ, _+_, _-_, _≤_}
 use mathlib.Core.List.{List}
 use lib.ListN.{length, drop, getD, length-set}
@@ -9,8 +9,10 @@ use Rattle.line_readings.proofs.Heads.{never, count-least, field-stands
 use Rattle.line_readings.proofs.Fields.{field-inside, read-more, read-all}
 use Rattle.line_readings.specs.LineReadings.{ReadTo}
 use Rattle.readings.specs.Readings.{FieldRead}
-use Rattle.tables.proofs.Laws.{count-most}
-use Rattle.field_types.specs.Codes.{typeOfCode}
+use Rattle.tables.specs.Tables.{markRows}
+use Rattle.tables.proofs.Laws.{count-most, row-length, marks-long}
+use Rattle.field_types.specs.Codes.{codeRows, typeOfCode}
+use Rattle.field_types.proofs.Laws.{codes-long}
 use Rattle.lists.proofs.Parts.{part-rest}
 use borrow.Author.Tests.{not-false, ltb-true}
 use borrow.Author.Needs.{needs}
@@ -19,24 +21,18 @@ use Rattle.line_readings.proofs.read_fields.Statement.{statement}
 use Rattle.line_readings.proofs.read_fields.Tie as tie
 
 abbrev Inv-loop : tie.InvT-loop
-Inv-loop days line record-type next numbers₀ codes marks count a₀ k₀ numbers a k = (k ≤ count) × (length numbers ≡ 24) × ReadTo record-type line k a numbers
+Inv-loop days codes marks line record-type next numbers₀ count a₀ k₀ numbers a k = (k ≤ count) × (length numbers ≡ 24) × ReadTo record-type line k a numbers
 
 abbrev μ-loop : tie.MeasureT-loop
-μ-loop days line record-type next numbers₀ codes marks count a₀ k₀ numbers a k = count - k
-
-codes-of-requires : tie.Need-codes-of-requires Inv-loop μ-loop
-codes-of-requires c κs = search needs
-
-marks-of-requires : tie.Need-marks-of-requires Inv-loop μ-loop
-marks-of-requires c κs = search needs
+μ-loop days codes marks line record-type next numbers₀ count a₀ k₀ numbers a k = count - k
 
 field-count-requires : tie.Need-field-count-requires Inv-loop μ-loop
 field-count-requires c κs = search needs
 
 loop-holds : tie.Need-loop-holds Inv-loop μ-loop
 loop-holds c =
-    let known = c .before .before .before .before .before .before .pre .0 .2 in
-    (omega (arith, c .field-count .ensures, count-least (c .before .before .before .before .before .before .args .record-type) known), c .before .before .before .before .before .before .pre .0 .1, c .before .before .before .before .before .before .pre .1)
+    let start = c .before .before .before .before .before .before in
+    (omega (arith, c .field-count .ensures, count-least (start .args .record-type) (start .pre .0 .2)), start .pre .0 .1, start .pre .1 .1)
 
 same-length : tie.Need-same-length Inv-loop μ-loop
 same-length c = c .before .before .loop .inv .1 ∙ sym (c .before .before .before .before .before .before .before .before .before .pre .0 .1)
@@ -48,11 +44,18 @@ returns c = λ e. never e
 few : (c : tie.After-field-count Inv-loop μ-loop) → c .field-count .result ≤ 19
 few c = omega (arith, c .field-count .ensures, count-most (c .before .before .before .before .before .before .args .record-type) (c .before .before .before .before .before .before .pre .0 .2))
 
+-- as many as a type has codes and marks
+codes-many : (c : tie.After-field-count Inv-loop μ-loop) → length (now (c .before .before .before .before .before .before .args .codes)) ≡ 19
+codes-many c = ap length (c .before .before .before .before .before .before .pre .1 .0 .0) ∙ row-length 19 codeRows codes-long (c .before .before .before .before .before .before .args .record-type) (c .before .before .before .before .before .before .pre .0 .2)
+
+marks-many : (c : tie.After-field-count Inv-loop μ-loop) → length (now (c .before .before .before .before .before .before .args .marks)) ≡ 19
+marks-many c = ap length (c .before .before .before .before .before .before .pre .1 .0 .1) ∙ row-length 19 markRows marks-long (c .before .before .before .before .before .before .args .record-type) (c .before .before .before .before .before .before .pre .0 .2)
+
 mul-read-field : tie.Need-mul-read-field Inv-loop μ-loop
 mul-read-field c = omega (arith, few (c .before .before .before))
 
-array-read-read-field : tie.Need-array-read-read-field Inv-loop μ-loop
-array-read-read-field c = omega (arith, few (c .before .before .before))
+shared-slice-read-read-field : tie.Need-shared-slice-read-read-field Inv-loop μ-loop
+shared-slice-read-read-field c = omega (arith, few (c .before .before .before .before), codes-many (c .before .before .before .before))
 
 sub-read-field : tie.Need-sub-read-field Inv-loop μ-loop
 sub-read-field c = search needs
@@ -67,62 +70,64 @@ read-field-requires : tie.Need-read-field-requires Inv-loop μ-loop
 read-field-requires c κs = search needs
 
 same-length-2 : tie.Need-same-length-2 Inv-loop μ-loop
-same-length-2 c = c .before .before .before .before .before .loop .inv .1 ∙ sym (c .before .before .before .before .before .before .before .before .before .before .before .before .pre .0 .1)
+same-length-2 c = c .before .before .before .before .before .before .loop .inv .1 ∙ sym (c .before .before .before .before .before .before .before .before .before .before .before .before .before .pre .0 .1)
 
 returns-2 : tie.Need-returns-2 Inv-loop μ-loop
 returns-2 c = λ e. never e
 
-array-read-is-misfilled : tie.Need-array-read-is-misfilled Inv-loop μ-loop
-array-read-is-misfilled c = omega (arith, few (c .before .before .before .before .before .before))
+shared-slice-read-is-misfilled : tie.Need-shared-slice-read-is-misfilled Inv-loop μ-loop
+shared-slice-read-is-misfilled c = omega (arith, few (c .before .before .before .before .before .before .before .before), marks-many (c .before .before .before .before .before .before .before .before))
 
 is-misfilled-requires : tie.Need-is-misfilled-requires Inv-loop μ-loop
 is-misfilled-requires c κs = search needs
 
 same-length-3 : tie.Need-same-length-3 Inv-loop μ-loop
-same-length-3 c = c .before .before .before .before .before .before .before .loop .inv .1 ∙ sym (c .before .before .before .before .before .before .before .before .before .before .before .before .before .before .pre .0 .1)
+same-length-3 c = c .before .before .before .before .before .before .before .before .before .loop .inv .1 ∙ sym (c .before .before .before .before .before .before .before .before .before .before .before .before .before .before .before .before .pre .0 .1)
 
 returns-3 : tie.Need-returns-3 Inv-loop μ-loop
 returns-3 c = λ e. never e
 
 -- the field is read
-read : (c : tie.Else2 Inv-loop μ-loop) → FieldRead (typeOfCode (getD (c .before .before .before .before .before .before .before .before .codes-of .result) (c .before .before .before .before .before .loop .k) 0)) (drop (c .before .before .before .before .before .loop .a) (now (c .before .before .before .before .before .before .before .before .before .before .before .before .args .line))) (c .before .read-field .result)
+read : (c : tie.Else2 Inv-loop μ-loop) → FieldRead (typeOfCode (getD (now (c .before .before .before .before .before .before .before .before .before .before .before .before .before .args .codes)) (c .before .before .before .before .before .before .loop .k) 0)) (drop (c .before .before .before .before .before .before .loop .a) (now (c .before .before .before .before .before .before .before .before .before .before .before .before .before .args .line))) (c .before .read-field .result)
 read c =
-    subst (λ (s : List ℕ). FieldRead (typeOfCode (getD (c .before .before .before .before .before .before .before .before .codes-of .result) (c .before .before .before .before .before .loop .k) 0)) s (c .before .read-field .result)) (part-rest (now (c .before .before .before .before .before .before .before .before .before .before .before .before .args .line)) (c .before .before .before .before .before .loop .a))
+    subst (λ (s : List ℕ). FieldRead (typeOfCode (getD (now (c .before .before .before .before .before .before .before .before .before .before .before .before .before .args .codes)) (c .before .before .before .before .before .before .loop .k) 0)) s (c .before .read-field .result)) (part-rest (now (c .before .before .before .before .before .before .before .before .before .before .before .before .before .args .line)) (c .before .before .before .before .before .before .loop .a))
     (c .before .read-field .ensures (not-false _ (c .if2 .left)))
 
-inside : (c : tie.Else2 Inv-loop μ-loop) → c .before .before .before .before .before .loop .a + c .before .read-field .result .len ≤ length (now (c .before .before .before .before .before .before .before .before .before .before .before .before .args .line))
-inside c = omega (arith, read c .ends, field-inside (now (c .before .before .before .before .before .before .before .before .before .before .before .before .args .line)) (c .before .before .before .before .before .loop .a) (c .before .before .before .if1 .left))
+inside : (c : tie.Else2 Inv-loop μ-loop) → c .before .before .before .before .before .before .loop .a + c .before .read-field .result .len ≤ length (now (c .before .before .before .before .before .before .before .before .before .before .before .before .before .args .line))
+inside c = omega (arith, read c .ends, field-inside (now (c .before .before .before .before .before .before .before .before .before .before .before .before .before .args .line)) (c .before .before .before .before .before .before .loop .a) (c .before .before .before .before .if1 .left))
 
 add-numbers : tie.Need-add-numbers Inv-loop μ-loop
-add-numbers c = omega (arith, few (c .before .before .before .before .before .before .before .before))
+add-numbers c = omega (arith, few (c .before .before .before .before .before .before .before .before .before .before))
 
 mul-numbers : tie.Need-mul-numbers Inv-loop μ-loop
-mul-numbers c = omega (arith, few (c .before .before .before .before .before .before .before .before))
+mul-numbers c = omega (arith, few (c .before .before .before .before .before .before .before .before .before .before))
 
 slice-write-numbers : tie.Need-slice-write-numbers Inv-loop μ-loop
-slice-write-numbers c = omega (arith, few (c .before .before .before .before .before .before .before .before), c .before .before .before .before .before .before .before .loop .inv .1)
+slice-write-numbers c = omega (arith, few (c .before .before .before .before .before .before .before .before .before .before), c .before .before .before .before .before .before .before .before .before .loop .inv .1)
 
 add-a : tie.Need-add-a Inv-loop μ-loop
-add-a c = omega (arith, inside (c .before .before))
+add-a c = omega (arith, inside (c .before .before .before))
 
 add-a-2 : tie.Need-add-a-2 Inv-loop μ-loop
-add-a-2 c = omega (arith, inside (c .before .before))
+add-a-2 c = omega (arith, inside (c .before .before .before))
 
 add-k : tie.Need-add-k Inv-loop μ-loop
-add-k c = omega (arith, few (c .before .before .before .before .before .before .before .before))
+add-k c = omega (arith, few (c .before .before .before .before .before .before .before .before .before .before))
 
 loop-less : tie.Need-loop-less Inv-loop μ-loop
 loop-less c = search needs
 
 loop-again : tie.Need-loop-again Inv-loop μ-loop
 loop-again c =
-    let p = c .before .before .before .before .before .before .before .loop in
-    let start = c .before .before .before .before .before .before .before .before .before .before .before .before .before .before in
-    let read = read (c .before .before) in (
+    let p = c .before .before .before .before .before .before .before .before .before .loop in
+    let start = c .before .before .before .before .before .before .before .before .before .before .before .before .before .before .before .before in
+    let field = c .before .before .before .before .read-field .result in
+    let read = read (c .before .before .before) in
+    let small = few (c .before .before .before .before .before .before .before .before .before .before) in (
       omega arith,
       simp length-set (p .inv .1),
-      read-more (p .inv .2) (c .before .before .before .before .before .if1 .left) (c .before .before .before .read-field .result .len) (read .ends) (omega (arith, few (c .before .before .before .before .before .before .before .before))) (c .before .before .before .read-field .result .number)
-          (field-stands (start .args .record-type) (p .k) (start .pre .0 .2) (omega (arith, few (c .before .before .before .before .before .before .before .before))) (c .before .before .before .before .before .before .before .before .before .before .codes-of .ensures) (c .before .before .before .before .before .before .before .before .before .marks-of .ensures) read (c .before .is-misfilled .ensures) (c .if3 .left)),
+      read-more (p .inv .2) (c .before .before .before .before .before .before .before .if1 .left) (field .len) (read .ends) (omega (arith, small)) (field .number)
+          (field-stands (start .args .record-type) (p .k) (start .pre .0 .2) (omega (arith, small)) (start .pre .1 .0 .0) (start .pre .1 .0 .1) read (c .before .is-misfilled .ensures) (c .if3 .left)),
     )
 
 same-length-4 : tie.Need-same-length-4 Inv-loop μ-loop
@@ -140,21 +145,19 @@ read-fields-spec =
     (tie.spec
     Inv-loop
     μ-loop
-    codes-of-requires
-    marks-of-requires
     field-count-requires
     loop-holds
     same-length
     returns
     mul-read-field
-    array-read-read-field
+    shared-slice-read-read-field
     sub-read-field
     part-read-field-start
     part-read-field-end
     read-field-requires
     same-length-2
     returns-2
-    array-read-is-misfilled
+    shared-slice-read-is-misfilled
     is-misfilled-requires
     same-length-3
     returns-3

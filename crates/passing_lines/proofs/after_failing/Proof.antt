@@ -30,16 +30,16 @@ unfilled-after-requires : tie.Need-unfilled-after-requires
 unfilled-after-requires c κs = search needs
 
 miscoded-after-requires : tie.Need-miscoded-after-requires
-miscoded-after-requires c κs = let l = placed-at (c .before .before .before .before .before .before .before .pre .0) (c .before .before .before .before .before .before .before .args .i) (c .before .before .before .before .before .before .before .pre .1) in (l .low, l .high)
+miscoded-after-requires c κs = let l = placed-at (c .before .before .before .before .before .before .before .before .before .pre .0 .0) (c .before .before .before .before .before .before .before .before .before .args .i) (c .before .before .before .before .before .before .before .before .before .pre .0 .1) in (l .low, l .high)
 
 returns : tie.Need-returns
 returns c =
-    let start = c .before .before .before .before .before .before .before .before in
+    let start = c .before .before .before .before .before .before .before .before .before .before in
     record {
       unformatted = refl;
       unfit = c .before .before .unfit-after .ensures;
       unfilled = c .before .unfilled-after .ensures;
-      miscoded = c .miscoded-after .ensures ∙ ap (λ (l : List ℕ). firstAfter (miscoded (unitIf (start .args .electricity)) l) (start .args .firsts .miscoded) (start .args .n) (start .args .i)) (placed-at (start .pre .0) (start .args .i) (start .pre .1) .same);
+      miscoded = c .miscoded-after .ensures ∙ ap (λ (l : List ℕ). firstAfter (miscoded (unitIf (start .args .electricity)) l) (start .args .firsts .miscoded) (start .args .n) (start .args .i)) (placed-at (start .pre .0 .0) (start .args .i) (start .pre .0 .1) .same);
     }
 
 pub after-failing-spec : {M : Type 1} → statement M

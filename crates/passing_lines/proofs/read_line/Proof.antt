@@ -22,9 +22,9 @@ returns c = λ e. never (sym (c .no-line .ensures) ∙ e)
 
 line-passes-requires : tie.Need-line-passes-requires
 line-passes-requires c κs =
-    let start = c .before .before .before .before .before .before .before .before .before in
+    let start = c .before .before .before .before .before .before .before .before .before .before .before in
     let known = c .before .if1 .left in
-    ((start .pre .0, c .before .before .before .before .read-head .kept .1 .0 ∙ start .pre .1, known), c .before .before .before .before .read-head .ensures known)
+    ((start .pre .0 .0, c .before .before .before .before .read-head .kept .1 .0 ∙ start .pre .0 .1, known), (start .pre .1, c .before .before .before .before .read-head .ensures known))
 
 no-line-requires-2 : tie.Need-no-line-requires-2
 no-line-requires-2 c κs = search needs

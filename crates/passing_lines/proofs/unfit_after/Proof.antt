@@ -41,13 +41,13 @@ part-first-unfit-end-2 : tie.Need-part-first-unfit-end-2
 part-first-unfit-end-2 c = search needs
 
 first-unfit-requires : tie.Need-first-unfit-requires
-first-unfit-requires c κs = one-placed (c .before .before .before .before .before .before .pre .0) (c .before .before .before .before .before .before .args .i) (c .before .before .before .before .before .before .pre .1)
+first-unfit-requires c κs = (c .before .before .before .before .before .before .before .before .pre .1, one-placed (c .before .before .before .before .before .before .before .before .pre .0 .0) (c .before .before .before .before .before .before .before .before .args .i) (c .before .before .before .before .before .before .before .before .pre .0 .1))
 
 returns-2 : tie.Need-returns-2
-returns-2 c = asked-fails (c .before .before .before .before .before .before .before .before .pre .0) (c .before .before .before .before .before .before .before .before .args .i) (c .before .before .before .before .before .before .before .before .pre .1) unfit (c .before .first-unfit .ensures) (c .before .before .before .before .if1 .left) (c .if2 .taken)
+returns-2 c = asked-fails (c .before .before .before .before .before .before .before .before .before .before .pre .0 .0) (c .before .before .before .before .before .before .before .before .before .before .args .i) (c .before .before .before .before .before .before .before .before .before .before .pre .0 .1) unfit (c .before .first-unfit .ensures) (c .before .before .before .before .if1 .left) (c .if2 .taken)
 
 returns-3 : tie.Need-returns-3
-returns-3 c = asked-passes (c .before .before .before .before .before .before .before .before .pre .0) (c .before .before .before .before .before .before .before .before .args .i) (c .before .before .before .before .before .before .before .before .pre .1) unfit (c .before .first-unfit .ensures) (c .before .before .before .before .if1 .left) (c .if2 .left)
+returns-3 c = asked-passes (c .before .before .before .before .before .before .before .before .before .before .pre .0 .0) (c .before .before .before .before .before .before .before .before .before .before .args .i) (c .before .before .before .before .before .before .before .before .before .before .pre .0 .1) unfit (c .before .first-unfit .ensures) (c .before .before .before .before .if1 .left) (c .if2 .left)
 
 pub unfit-after-spec : {M : Type 1} → statement M
 unfit-after-spec =

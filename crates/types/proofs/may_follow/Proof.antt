@@ -1,4 +1,4 @@
--- `types::may_follow` meets its contract: the constant computes to the table of the followers.
+-- `types::may_follow` meets its contract: what is lent is the table of the followers.
 -- Assumes nothing.
 use Rattle.types.specs.Types.{mayFollow}
 use mathlib.Core.Bool.{and-false}
@@ -27,7 +27,7 @@ index-2-result c = search needs
 
 returns-3 : tie.Need-returns-3
 unfolding mayFollow
-returns-3 c = simp (lt-ltb _ _ (c .before .before .if1 .left), lt-ltb _ _ (c .before .if2 .left))
+returns-3 c = simp (lt-ltb _ _ (c .before .before .if1 .left), lt-ltb _ _ (c .before .if2 .left), c .before .before .before .pre)
 
 pub may-follow-spec : {M : Type 1} → statement M
 may-follow-spec =
