@@ -32,7 +32,11 @@ pub fn first_unfit(
         while k < count {
             let b = r.starts[k];
             let f = r.ends[k];
-            if !fields::fits(days, field_types::field_type(codes, record_type, k), &file[b..f]) {
+            if !fields::fits(
+                days,
+                field_types::field_type(codes, record_type, k),
+                &file[b..f],
+            ) {
                 break 'records;
             }
             k += 1;

@@ -128,14 +128,7 @@ fn unfit_after(
     if first != n {
         return first;
     }
-    if field_tests::first_unfit(
-        days,
-        codes,
-        file,
-        &starts[i..i + 1],
-        &ends[i..i + 1],
-        1,
-    ) == 0 {
+    if field_tests::first_unfit(days, codes, file, &starts[i..i + 1], &ends[i..i + 1], 1) == 0 {
         return i;
     }
     n
@@ -258,14 +251,7 @@ fn read_lines_lent(
     while i < n {
         let a = starts[i];
         let e = ends[i];
-        let line = read_line(
-            days,
-            codes,
-            marks,
-            &file[a..e],
-            electricity,
-            &mut numbers,
-        );
+        let line = read_line(days, codes, marks, &file[a..e], electricity, &mut numbers);
         let passes = line.passes;
         if passes {
             let row = line.row;
@@ -275,17 +261,7 @@ fn read_lines_lent(
             if format::is_unformatted(file, a, e) {
                 return none_after_format(i, n);
             }
-            firsts = after_failing(
-                days,
-                codes,
-                file,
-                starts,
-                ends,
-                n,
-                i,
-                electricity,
-                firsts,
-            );
+            firsts = after_failing(days, codes, file, starts, ends, n, i, electricity, firsts);
             let row = columns::row_at(days, file, a, e);
             store_line(words, charges, usages, i, row);
             i += 1;
