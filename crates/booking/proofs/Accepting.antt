@@ -14,12 +14,12 @@ use borrow.Author.Tests.{eqb-true, eq-eqb, ltb-false, le-ltb}
 use lib.Dec.{T, eqb, ltb}
 use lib.ListN.{length, getD, take}
 use Rattle.text.specs.Text.{linesOf}
-use Rattle.validation.specs.declared.Outcome.{Outcome}
-use Rattle.validation.specs.Check.{outcome, passed, atLine, house, firstRefusal, settingsFit, isTooLarge, formatRefusals, testRefusals}
+use Rattle.refusals.specs.declared.Outcome.{Outcome}
+use Rattle.refusals.specs.Check.{outcome, passed, atLine, house, firstRefusal, settingsFit, isTooLarge, formatRefusals, testRefusals}
 use Rattle.validation.specs.Passing.{Passing}
 use Rattle.validation.specs.Accepted.{Bill, BillFile, billFile}
-use Rattle.validation.proofs.Outcomes.{AllOf, Refused, tests-refused, few-lines}
-use Rattle.validation.proofs.Refusals.{allNumbered, both-numbered, line-numbered, numbered, NoneOf, none-passes, passes-none, append-none, none-append}
+use Rattle.refusals.proofs.Outcomes.{AllOf, Refused, tests-refused, few-lines}
+use Rattle.refusals.proofs.Refusals.{allNumbered, both-numbered, line-numbered, numbered, NoneOf, none-passes, passes-none, append-none, none-append}
 use Rattle.validation.proofs.Passing.{tests-none}
 use Rattle.entries.specs.declared.Entry.{Entry}
 use Rattle.soundness.specs.Sound.{isSound}

@@ -10,8 +10,8 @@ use lib.ListN.{length}
 use lib.IntN.{ℤ, pos, negsuc}
 use Rattle.lists.specs.Selections.{filter, sum}
 use Rattle.calendar.specs.Periods.{sharesDay}
-use Rattle.validation.specs.declared.Outcome.{Outcome}
-use Rattle.validation.specs.Check.{outcome, passed, firstRefusal}
+use Rattle.refusals.specs.declared.Outcome.{Outcome}
+use Rattle.refusals.specs.Check.{outcome, passed, firstRefusal}
 use Rattle.validation.specs.Accepted.{Bill, BillFile}
 use Rattle.entries.specs.declared.Entry.{Entry}
 use Rattle.entries.specs.Entries.{isLive}

@@ -11,11 +11,11 @@ use native.Mathlib.Decide.{decLt, ℕ-discrete}
 use lib.Dec.{T, eqb, ltb}
 use lib.ListN.{length, getD, take}
 use Rattle.text.specs.Text.{linesOf}
-use Rattle.validation.specs.declared.Outcome.{Outcome}
-use Rattle.validation.specs.Check.{house, atLine, firstRefusal, settingsFit, isTooLarge, testRefusals}
+use Rattle.refusals.specs.declared.Outcome.{Outcome}
+use Rattle.refusals.specs.Check.{house, atLine, firstRefusal, settingsFit, isTooLarge, testRefusals}
 use Rattle.validation.specs.Accepted.{BillFile, billFile}
-use Rattle.validation.proofs.Outcomes.{Refused as RefusedByCheck, first-of, tests-refused, none-refused, few-lines}
-use Rattle.validation.proofs.Joined.{stage-stops, stage-goes}
+use Rattle.refusals.proofs.Outcomes.{Refused as RefusedByCheck, first-of, tests-refused, none-refused, few-lines}
+use Rattle.refusals.proofs.Joined.{stage-stops, stage-goes}
 use Rattle.entries.specs.declared.Entry.{Entry}
 use Rattle.soundness.specs.Sound.{isSound}
 use Rattle.booking.specs.declared.Answer.the-variants.{Refused, Accepted}

@@ -7,7 +7,7 @@ use mathlib.Core.Bool.{true, false}
 use mathlib.Core.List.{List}
 use lib.ListN.{length, take}
 use Rattle.text.specs.Text.{linesOf}
-use Rattle.validation.specs.Check.{settingsFit, isTooLarge}
+use Rattle.refusals.specs.Check.{settingsFit, isTooLarge}
 use Rattle.validation.specs.Passing.{Passing}
 use Rattle.validation.specs.Accepted.{BillFile, billFile}
 use Rattle.entries.specs.declared.Entry.{Entry}

@@ -11,8 +11,8 @@ use lib.ListN.{length, getD, take, drop}
 use Rattle.lists.specs.Selections.{filter, any, count}
 use Rattle.calendar.specs.Periods.{sharesDay}
 use Rattle.text.specs.Text.{linesOf}
-use Rattle.validation.specs.declared.Outcome.{Outcome}
-use Rattle.validation.specs.Check.{house, atLine, firstRefusal, settingsFit, isTooLarge, testRefusals}
+use Rattle.refusals.specs.declared.Outcome.{Outcome}
+use Rattle.refusals.specs.Check.{house, atLine, firstRefusal, settingsFit, isTooLarge, testRefusals}
 use Rattle.validation.specs.Accepted.{Bill, BillFile, billFile}
 use Rattle.entries.specs.declared.Entry.{Entry}
 use Rattle.entries.specs.Entries.{isLive, isHeld, isPeriod, period, inState}

@@ -14,8 +14,8 @@ use Rattle.codes.specs.declared.RejectionCode.{RejectionCode}
 use Rattle.codes.specs.declared.RejectionCode.the-variants.{Code, NotATest}
 use Rattle.codes.specs.Codes.{codeOf}
 use Rattle.codes.proofs.Laws.{code-range}
-use Rattle.validation.specs.Check.{checkOf}
-use Rattle.validation.proofs.Outcomes.{check-small}
+use Rattle.refusals.specs.Check.{checkOf}
+use Rattle.refusals.proofs.Outcomes.{check-small}
 use Rattle.intake.specs.Answers.{Answer, packed, checkAnswer, dayAnswer, codeAnswer}
 
 module _ (a : Answer) (fits : a .value < 2 ^ 32) where

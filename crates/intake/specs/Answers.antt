@@ -3,7 +3,7 @@
 use Prim.Native.Nat.{ℕ, _+_, _*_, _^_}
 use Rattle.calendar.specs.declared.Day.{Day}
 use Rattle.calendar.specs.declared.Day.the-variants.{At, NotADate}
-use Rattle.validation.specs.declared.Outcome.{Outcome}
+use Rattle.refusals.specs.declared.Outcome.{Outcome}
 use Rattle.codes.specs.declared.RejectionCode.{RejectionCode}
 use Rattle.codes.specs.declared.RejectionCode.the-variants.{Code, NotATest}
 

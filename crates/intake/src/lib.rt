@@ -3,7 +3,7 @@
 ghost use mathlib.Core.Path.{_≡_};
 ghost use Rattle.calendar.specs.Calendar.{dayOf};
 ghost use Rattle.codes.specs.Codes.{codeOf};
-ghost use Rattle.validation.specs.Check.{checkOf};
+ghost use Rattle.refusals.specs.Check.{checkOf};
 ghost use Rattle.intake.specs.Answers.{packed, checkAnswer, dayAnswer, codeAnswer};
 use calendar::Day;
 use codes::RejectionCode;

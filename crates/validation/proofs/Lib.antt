@@ -1,12 +1,6 @@
 pub mod Accepted
-pub mod Certified
-pub mod Columns
-pub mod Joined
 pub mod Limits
 pub mod Lines
-pub mod Outcomes
 pub mod Passing
-pub mod Refusals
-pub mod Stages
 pub mod Sums
 pub mod Trailer

@@ -9,10 +9,10 @@ use native.Mathlib.Decide.{decLt}
 use borrow.Author.Tests.{lt-ltb, le-ltb}
 use lib.ListN.{length}
 use Rattle.text.specs.Text.{linesOf}
-use Rattle.validation.specs.declared.Outcome.{Outcome}
-use Rattle.validation.specs.Check.{house, firstRefusal, testRefusals, isTooLarge}
+use Rattle.refusals.specs.declared.Outcome.{Outcome}
+use Rattle.refusals.specs.Check.{house, firstRefusal, testRefusals, isTooLarge}
 use Rattle.validation.specs.Steps.{Checked}
-use Rattle.validation.proofs.Stages.{line-fails}
+use Rattle.refusals.proofs.Stages.{line-fails}
 
 pub too-many-bytes : (file : List ℕ) → 1048576 < length file → isTooLarge file ≡ true
 unfolding isTooLarge

@@ -23,7 +23,7 @@ use Rattle.columns.proofs.Laws.{map-at}
 use Rattle.groups.specs.Groups.{at, parentPlace, parentPlaces, pickedAt, picked}
 use Rattle.groups.proofs.Laws.{parent-at, parent-before, parent-type-there, parent-is, picked-length, picked-at}
 use Rattle.format.specs.Format.{lineAt}
-use Rattle.validation.specs.Check.{numbers, types, parentsOf}
+use Rattle.refusals.specs.Check.{numbers, types, parentsOf}
 use Rattle.validation.specs.Passing.{typeAt, idAt, dateAt, isCancelAt, isOfType, Under, OfTypeUnder}
 
 -- ---- columns, at a place

@@ -32,12 +32,12 @@ use Rattle.periods.specs.Periods.{PeriodColumns, periodColumns, firstReversed, 
 use Rattle.periods.proofs.Meaning.{dates-in-order, no-shared-days, Original, Chooses, HasDay}
 use Rattle.totals.specs.Totals.{firstWrongTotal}
 use Rattle.totals.proofs.Meaning.{TotalsRight, none-wrong}
-use Rattle.validation.specs.declared.Outcome.{Outcome}
-use Rattle.validation.specs.Check.{passed, atLine, atRecord, house, firstRefusal, numbers, types, charges, usages, sitesOf, parentsOf, onesOf, formatRefusals, orderRefusals, identityRefusals, headerRefusals, periodRefusals, siteRefusals, periodTotalRefusals, trailerRefusals, childRefusals, totalRefusals, columnRefusals, testRefusals, settingsFit, isTooLarge, checkRefusals, checkOf}
+use Rattle.refusals.specs.declared.Outcome.{Outcome}
+use Rattle.refusals.specs.Check.{passed, atLine, atRecord, house, firstRefusal, numbers, types, charges, usages, sitesOf, parentsOf, onesOf, formatRefusals, orderRefusals, identityRefusals, headerRefusals, periodRefusals, siteRefusals, periodTotalRefusals, trailerRefusals, childRefusals, totalRefusals, columnRefusals, testRefusals, settingsFit, isTooLarge, checkRefusals, checkOf}
 use Rattle.validation.specs.Passing.{idAt, dateAt, isCancelAt, Under, OfTypeUnder, Chosen, Passing}
 use Rattle.validation.proofs.Lines.{type-at, date-held, held-date, cancel-at, numbers-length, types-length, same-marked, same-ids, same-cancels, under-is, type-under-is, picked-size}
-use Rattle.validation.proofs.Outcomes.{AllOf, Refused, tests-refused, none-refused, few-lines}
-use Rattle.validation.proofs.Refusals.{NoneOf, none-passes, line-none, none-line, record-none, none-record}
+use Rattle.refusals.proofs.Outcomes.{AllOf, Refused, tests-refused, none-refused, few-lines}
+use Rattle.refusals.proofs.Refusals.{NoneOf, none-passes, line-none, none-line, record-none, none-record}
 use Rattle.validation.proofs.Sums.{site-totals, own-totals, file-totals}
 
 abbrev periodsOf : List (List ℕ) → PeriodColumns

@@ -27,7 +27,7 @@ use Rattle.format_laws.proofs.Reflected.{both-of}
 use Rattle.headers.specs.Headers.{isNumber}
 use Rattle.totals.specs.Totals.{amountAt, groupSum}
 use Rattle.totals.proofs.Meaning.{TotalsRight}
-use Rattle.validation.specs.Check.{numbers, types, sitesOf, parentsOf, placesOf, onesOf}
+use Rattle.refusals.specs.Check.{numbers, types, sitesOf, parentsOf, placesOf, onesOf}
 use Rattle.validation.specs.Passing.{typeAt, idAt, sumOf, isOfType, isOfSite, isOwn}
 use Rattle.validation.proofs.Lines.{id-at, types-length, picked-size, picked-is}
 

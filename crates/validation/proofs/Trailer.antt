@@ -24,7 +24,7 @@ use Rattle.identity.proofs.Meaning.{every-parent}
 use Rattle.totals.specs.Totals.{amountAt, groupSum}
 use Rattle.totals.specs.Sums.{groupsSum}
 use Rattle.totals.proofs.Laws.{sum-same, sum-none, sum-split}
-use Rattle.validation.specs.Check.{types, charges, parentsOf, placesOf, onesOf}
+use Rattle.refusals.specs.Check.{types, charges, parentsOf, placesOf, onesOf}
 use Rattle.validation.specs.Accepted.{isPeriod, isBill, billIn, billsIn, billFile, sumOfCharges}
 use Rattle.lists.specs.Selections.{filter}
 use Rattle.validation.specs.Passing.{typeAt, Under, Passing}

@@ -25,7 +25,7 @@ use Rattle.format.specs.Format.{lineAt, unitOf}
 use Rattle.format_laws.proofs.Meaning.{Formatted, Fitting, Ordered, Filled, Coded}
 use Rattle.headers.specs.Headers.{isNumber}
 use Rattle.headers.proofs.Meaning.{Listed}
-use Rattle.validation.specs.Check.{types}
+use Rattle.refusals.specs.Check.{types}
 
 -- ---- what the fields of the record below speak of
 abbrev pub typeAt : List (List ℕ) → ℕ → ℕ

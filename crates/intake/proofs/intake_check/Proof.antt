@@ -1,9 +1,9 @@
 -- `intake::intake_check` meets its contract: the number and the line that Check answers are small enough for one word.
 -- Assumes nothing.
 use Rattle.intake.specs.Answers.{packed, checkAnswer}
-use Rattle.validation.proofs.Outcomes.{check-small}
-use Rattle.validation.specs.Check.{checkOf}
-use Rattle.validation.specs.declared.Outcome.{Outcome}
+use Rattle.refusals.proofs.Outcomes.{check-small}
+use Rattle.refusals.specs.Check.{checkOf}
+use Rattle.refusals.specs.declared.Outcome.{Outcome}
 use denote.Ref.{now}
 use Prim.Native.Nat.{ℕ, _≤_}
 use mathlib.Core.Path.{_≡_, sym, _∙_, ap}
