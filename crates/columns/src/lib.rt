@@ -84,7 +84,7 @@ fn held_field(table: &[u64], column: usize, s: &[u8]) -> u64
         };
     }
     if column < 7 {
-        return match calendar::read_day(table, s) {
+        return match dates::read_day(table, s) {
             Day::At(d) => d + 1,
             Day::NotADate => 0,
         };

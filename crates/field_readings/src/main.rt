@@ -35,7 +35,7 @@ fn print_amount(s: &[u8]) {
 
 fn print_day(s: &[u8]) {
     print(b"  day ");
-    match calendar::day_of(s) {
+    match dates::day_of(s) {
         Day::At(day) => {
             io::print_decimal(STDOUT_FILENO, day);
         }

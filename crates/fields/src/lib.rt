@@ -56,8 +56,8 @@ pub fn fits(table: &[u64], t: FieldType, s: &[u8]) -> bool
         FieldType::RecordId => is_read(digits::digits(s)),
         FieldType::Digits(n) => is_read(digits::fixed_digits(s, n)),
         FieldType::Number(precision, places) => amounts::is_number(s, precision, places),
-        FieldType::Date => is_day(calendar::read_day(table, s)),
-        FieldType::DateTime => is_moment(calendar::read_date_time(table, s)),
+        FieldType::Date => is_day(dates::read_day(table, s)),
+        FieldType::DateTime => is_moment(dates::read_date_time(table, s)),
         FieldType::Char(n) => s.len() == n,
         FieldType::Varchar(n) => s.len() <= n,
     }

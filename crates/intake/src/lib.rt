@@ -22,7 +22,7 @@ pub extern "C" fn intake_check(retailer: u64, distributors: &[u8], file: &[u8]) 
 pub extern "C" fn intake_day(date: &[u8]) -> u64
     ensures { λ r. ⌜ r ≡ packed (dayAnswer (dayOf (now (date .entry)))) ⌝ }
 {
-    match calendar::day_of(date) {
+    match dates::day_of(date) {
         Day::At(day) => day,
         Day::NotADate => 3 * 4294967296,
     }

@@ -1,4 +1,4 @@
--- `comparison::comparison_date_time` meets its contract: it stores and answers what `calendar::date_time_of` read.
+-- `comparison::comparison_date_time` meets its contract: it stores and answers what `dates::date_time_of` read.
 -- Assumes nothing.
 use mathlib.Core.Path.{_≡_, sym, _∙_}
 use borrow.Author.Needs.{needs}

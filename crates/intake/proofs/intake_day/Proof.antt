@@ -1,4 +1,4 @@
--- `intake::intake_day` meets its contract: it packs the answers of `calendar::day_of`.
+-- `intake::intake_day` meets its contract: it packs the answers of `dates::day_of`.
 -- Assumes nothing.
 use borrow.Author.Needs.{needs}
 use native.Mathlib.Omega.{arith}

@@ -1,4 +1,4 @@
--- `calendar::read_date_time` meets its contract: the date is the first eight bytes, the time what stands from byte 8 on.
+-- `dates::read_date_time` meets its contract: the date is the first eight bytes, the time what stands from byte 8 on.
 -- Assumes nothing.
 use mathlib.Core.Path.{_≡_, sym}
 use Prim.Native.Nat.{_-_}
@@ -10,9 +10,9 @@ use denote.Ref.{now}
 use lib.ListN.{length, drop, length-drop}
 use lib.Seq.{length-take-le, take-all}
 use Rattle.digits.specs.Digits.{digitsOf}
 use Rattle.calendar.specs.Calendar.{dateTimeOf}
-use Rattle.calendar.proofs.read_date_time.Statement.{statement}
-use Rattle.calendar.proofs.read_date_time.Tie as tie
+use Rattle.dates.proofs.read_date_time.Statement.{statement}
+use Rattle.dates.proofs.read_date_time.Tie as tie
 
 returns : tie.Need-returns
 unfolding dateTimeOf

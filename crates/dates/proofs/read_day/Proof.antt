@@ -1,11 +1,11 @@
--- `calendar::read_day` meets its contract: by cases on what the digits say.
+-- `dates::read_day` meets its contract: by cases on what the digits say.
 -- Assumes nothing.
 use Rattle.calendar.specs.Calendar.{dayOf}
 use mathlib.Core.Path.{_≡_, sym}
 use borrow.Author.Tests.{eq-eqb, ne-eqb}
 use borrow.Author.Needs.{needs}
-use Rattle.calendar.proofs.read_day.Statement.{statement}
-use Rattle.calendar.proofs.read_day.Tie as tie
+use Rattle.dates.proofs.read_day.Statement.{statement}
+use Rattle.dates.proofs.read_day.Tie as tie
 
 returns : tie.Need-returns
 unfolding dayOf

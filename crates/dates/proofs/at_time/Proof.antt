@@ -1,9 +1,9 @@
--- `calendar::at_time` meets its contract: each return follows from the tests that led to it.
+-- `dates::at_time` meets its contract: each return follows from the tests that led to it.
 -- Assumes nothing.
 use borrow.Author.Tests.{le-leb, lt-leb}
 use borrow.Author.Needs.{needs}
-use Rattle.calendar.proofs.at_time.Statement.{statement}
-use Rattle.calendar.proofs.at_time.Tie as tie
+use Rattle.dates.proofs.at_time.Statement.{statement}
+use Rattle.dates.proofs.at_time.Tie as tie
 
 returns : tie.Need-returns
 returns c = simp (lt-leb _ _ (c .if1 .taken))
