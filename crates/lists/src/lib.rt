@@ -1,8 +1,8 @@
 // Definitions on lists that contracts cite, with their laws, and the search that many crates use.
 ghost use mathlib.Core.Path.{_≡_};
 ghost use mathlib.Core.Bool.{false};
-ghost use Prim.Native.Nat.{ℕ, _<_};
-ghost use lib.ListN.{length, getD};
+ghost use Prim.Native.Nat.{ℕ, _+_, _≤_, _<_};
+ghost use lib.ListN.{length, getD, drop};
 ghost use Rattle.lists.specs.First.{firstWhere, isByte};
 ghost use Rattle.lists.specs.Bytes.{sameBytes};
 
@@ -20,15 +20,14 @@ pub fn find(s: &[u8], b: u8) -> usize
     i
 }
 
-// Whether a byte of a block of 32 is b. There is no early exit, so that many bytes are compared at once.
-fn block_has(s: &[u8], b: u8) -> bool
-    requires { ⌜ length (now s) ≡ 32 ⌝ }
-    ensures { λ r. ⌜ (r ≡ false → (k : ℕ) → k < 32 → isByte b (getD (now (s .entry)) k 0) ≡ false) ⌝ }
+// Whether a byte of a block is b. There is no early exit, so that many bytes are compared at once.
+fn block_has(block: &[u8], b: u8) -> bool
+    ensures { λ r. ⌜ (r ≡ false → (k : ℕ) → k < length (now (block .entry)) → isByte b (getD (now (block .entry)) k 0) ≡ false) ⌝ }
 {
     let mut found = false;
     let mut i: usize = 0;
-    while i < 32 {
-        if s[i] == b {
+    while i < block.len() {
+        if block[i] == b {
             found = true;
         }
         i += 1;
@@ -36,18 +35,28 @@ fn block_has(s: &[u8], b: u8) -> bool
     found
 }
 
-// What find says, for a byte that is likely to stand far from the start: 32 bytes are passed over at a time.
+// How many bytes at the start of s can be passed over, block by block, before one that has b.
+fn pass_over(s: &[u8], b: u8, width: usize) -> usize
+    requires { ⌜ 0 < width ⌝ }
+    ensures { λ r. ⌜ (r ≤ length (now (s .entry))) × (firstWhere (isByte b) (now (s .entry)) ≡ r + firstWhere (isByte b) (drop r (now (s .entry)))) ⌝ }
+{
+    let mut i: usize = 0;
+    while width <= s.len() - i {
+        if block_has(&s[i..i + width], b) {
+            return i;
+        }
+        i += width;
+    }
+    i
+}
+
+// What find says, for a byte that is likely to stand far from the start: 32 bytes are passed over at a time, and near to it 8.
 pub fn find_far(s: &[u8], b: u8) -> usize
     ensures { λ r. ⌜ r ≡ firstWhere (isByte b) (now (s .entry)) ⌝ }
 {
-    let mut i: usize = 0;
-    while 32 <= s.len() - i {
-        if block_has(&s[i..i + 32], b) {
-            return i + find(&s[i..], b);
-        }
-        i += 32;
-    }
-    i + find(&s[i..], b)
+    let far = pass_over(s, b, 32);
+    let near = far + pass_over(&s[far..], b, 8);
+    near + find(&s[near..], b)
 }
 
 pub fn wide(x: u8) -> u64

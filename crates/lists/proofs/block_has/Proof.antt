@@ -1,7 +1,7 @@
 -- `lists::block_has` meets its contract. The loop's invariant: where nothing is found, no byte passed so far is the one that is looked for.
 -- Assumes nothing.
 use Rattle.lists.specs.First.{isByte}
-use lib.ListN.{getD}
+use lib.ListN.{length, getD}
 use borrow.Author.Count.{below-more}
 use borrow.Author.Tests.{ne-eqb}
 use mathlib.Core.Bool.{true, false}
@@ -14,10 +14,10 @@ use Rattle.lists.proofs.block_has.Statement.{statement}
 use Rattle.lists.proofs.block_has.Tie as tie
 
 abbrev Inv-loop : tie.InvT-loop
-Inv-loop s b found₀ i₀ found i = (i ≤ 32) × (found ≡ false → (k : ℕ) → k < i → isByte b (getD s k 0) ≡ false)
+Inv-loop block b found₀ i₀ found i = (i ≤ length block) × (found ≡ false → (k : ℕ) → k < i → isByte b (getD block k 0) ≡ false)
 
 abbrev μ-loop : tie.MeasureT-loop
-μ-loop s b found₀ i₀ found i = 32 - i
+μ-loop block b found₀ i₀ found i = length block - i
 
 loop-holds : tie.Need-loop-holds Inv-loop μ-loop
 loop-holds c = (omega arith, λ e k h. absurd (omega arith))
@@ -35,7 +35,7 @@ loop-again : tie.Need-loop-again Inv-loop μ-loop
 loop-again c = (
   omega arith,
   λ e. ⊎-elim (λ w. let z : true ≡ false = sym (w .1) ∙ e in let q : _≡_ {A = ℕ} 0 1 = cc in absurd (omega arith))
-      (λ w. below-more (λ (k : ℕ). isByte (c .before .before .before .before .args .b) (getD (c .before .before .before .before .args .s .now) k 0) ≡ false) (c .before .before .before .loop .i) (c .before .before .before .loop .inv .1 (sym (w .1) ∙ e)) (ne-eqb _ _ (w .0 .left))) (c .if1 .came),
+      (λ w. below-more (λ (k : ℕ). isByte (c .before .before .before .before .args .b) (getD (c .before .before .before .before .args .block .now) k 0) ≡ false) (c .before .before .before .loop .i) (c .before .before .before .loop .inv .1 (sym (w .1) ∙ e)) (ne-eqb _ _ (w .0 .left))) (c .if1 .came),
 )
 
 returns : tie.Need-returns Inv-loop μ-loop
