@@ -1,14 +1,14 @@
--- `identity::first_by_scan` meets its contract. The loop's invariant: the search for a record whose ID an earlier one has resumes at `later`.
+-- `record_ids::first_by_scan` meets its contract. The loop's invariant: the search for a record whose ID an earlier one has resumes at `later`.
 -- Assumes nothing.
 use Rattle.identity.specs.Identity.{repeats, firstRepeated}
 use Rattle.lists.proofs.Below.{Searched, searched-none, searched-more, searched-here, searched-end}
 use mathlib.Core.Path.{_≡_, sym, _∙_}
 use lib.ListN.{length}
 use Prim.Native.Nat.{_-_, _≤_}
 use borrow.Author.Needs.{needs}
 use native.Mathlib.Omega.{arith}
-use Rattle.identity.proofs.first_by_scan.Statement.{statement}
-use Rattle.identity.proofs.first_by_scan.Tie as tie
+use Rattle.record_ids.proofs.first_by_scan.Statement.{statement}
+use Rattle.record_ids.proofs.first_by_scan.Tie as tie
 
 abbrev Inv-loop : tie.InvT-loop
 Inv-loop ids later₀ later = (later ≤ length ids) × Searched (repeats ids) (length ids) later

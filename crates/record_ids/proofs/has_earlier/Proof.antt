@@ -1,6 +1,6 @@
--- `identity::has_earlier` meets its contract. The loop's invariant: the search for an earlier record with the same ID resumes at `earlier`.
+-- `record_ids::has_earlier` meets its contract. The loop's invariant: the search for an earlier record with the same ID resumes at `earlier`.
 -- Assumes nothing.
 use Rattle.identity.specs.Identity.{repeats}
 use Rattle.lists.proofs.Below.{Searched, searched-none, searched-more, searched-here, searched-end, found-some, found-none}
 use Rattle.groups.specs.Groups.{at}
 use borrow.Author.Tests.{eq-eqb, ne-eqb}
@@ -11,8 +11,8 @@ use mathlib.Core.Path.{_≡_, sym}
 use Prim.Native.Nat.{ℕ, _-_, _≤_}
 use borrow.Author.Needs.{needs}
 use native.Mathlib.Omega.{arith}
-use Rattle.identity.proofs.has_earlier.Statement.{statement}
-use Rattle.identity.proofs.has_earlier.Tie as tie
+use Rattle.record_ids.proofs.has_earlier.Statement.{statement}
+use Rattle.record_ids.proofs.has_earlier.Tie as tie
 
 -- an earlier record has the ID of a later one
 abbrev sameId : List ℕ → ℕ → ℕ → Bool

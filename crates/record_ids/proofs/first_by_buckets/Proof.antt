@@ -1,6 +1,6 @@
--- `identity::first_by_buckets` meets its contract: the first place that an earlier place leads is the first whose ID an earlier record has.
+-- `record_ids::first_by_buckets` meets its contract: the first place that an earlier place leads is the first whose ID an earlier record has.
 -- Assumes nothing.
-use Rattle.identity.proofs.Search.{led-first}
+use Rattle.record_ids.proofs.Search.{led-first}
 use Rattle.buckets.proofs.Laws.{zeros}
 use lib.ListN.{length-replicate}
 use denote.Ref.{now}
@@ -8,8 +8,8 @@ use Prim.Native.Nat.{ℕ}
 use mathlib.Core.Path.{_≡_, _∙_}
 use borrow.Author.Needs.{needs}
 use native.Mathlib.Omega.{arith}
-use Rattle.identity.proofs.first_by_buckets.Statement.{statement}
-use Rattle.identity.proofs.first_by_buckets.Tie as tie
+use Rattle.record_ids.proofs.first_by_buckets.Statement.{statement}
+use Rattle.record_ids.proofs.first_by_buckets.Tie as tie
 
 slice-aggregate-index : tie.Need-slice-aggregate-index
 slice-aggregate-index c = search needs

@@ -1,13 +1,13 @@
--- `identity::shown_repeated` meets its contract: the IDs before m differ, and one of them is that at m.
+-- `record_ids::shown_repeated` meets its contract: the IDs before m differ, and one of them is that at m.
 -- Assumes nothing.
-use Rattle.identity.proofs.Search.{different-first}
+use Rattle.record_ids.proofs.Search.{different-first}
 use denote.Ref.{now}
 use Prim.Native.Nat.{ℕ}
 use mathlib.Core.Path.{_≡_, sym, _∙_}
 use borrow.Author.Needs.{needs}
 use native.Mathlib.Omega.{arith}
-use Rattle.identity.proofs.shown_repeated.Statement.{statement}
-use Rattle.identity.proofs.shown_repeated.Tie as tie
+use Rattle.record_ids.proofs.shown_repeated.Statement.{statement}
+use Rattle.record_ids.proofs.shown_repeated.Tie as tie
 
 differ-requires : tie.Need-differ-requires
 differ-requires c κs = search needs

@@ -1,11 +1,11 @@
--- `identity::first_of_few` meets its contract: each way that answers is shown, and the last compares all pairs.
+-- `record_ids::first_of_few` meets its contract: each way that answers is shown, and the last compares all pairs.
 -- Assumes nothing.
-use Rattle.identity.proofs.Search.{different-end}
+use Rattle.record_ids.proofs.Search.{different-end}
 use denote.Ref.{now}
 use mathlib.Core.Path.{_≡_, sym}
 use borrow.Author.Needs.{needs}
-use Rattle.identity.proofs.first_of_few.Statement.{statement}
-use Rattle.identity.proofs.first_of_few.Tie as tie
+use Rattle.record_ids.proofs.first_of_few.Statement.{statement}
+use Rattle.record_ids.proofs.first_of_few.Tie as tie
 
 rises-requires : tie.Need-rises-requires
 rises-requires c κs = search needs

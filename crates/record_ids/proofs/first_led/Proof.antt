@@ -1,4 +1,4 @@
--- `identity::first_led` meets its contract. The loop's invariant: the search for a place that an earlier place leads resumes at `i`.
+-- `record_ids::first_led` meets its contract. The loop's invariant: the search for a place that an earlier place leads resumes at `i`.
 -- Assumes nothing.
 use Rattle.lists.proofs.Below.{Searched, searched-none, searched-more, searched-here, searched-end}
 use borrow.Author.Tests.{lt-ltb, le-ltb}
@@ -10,8 +10,8 @@ use mathlib.Core.List.{List}
 use mathlib.Core.Path.{_≡_, sym, _∙_}
 use borrow.Author.Needs.{needs}
 use native.Mathlib.Omega.{arith}
-use Rattle.identity.proofs.first_led.Statement.{statement}
-use Rattle.identity.proofs.first_led.Tie as tie
+use Rattle.record_ids.proofs.first_led.Statement.{statement}
+use Rattle.record_ids.proofs.first_led.Tie as tie
 
 -- an earlier place leads the place i
 abbrev led : List ℕ → ℕ → Bool

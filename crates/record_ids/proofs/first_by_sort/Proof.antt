@@ -1,11 +1,11 @@
--- `identity::first_by_sort` meets its contract: each answer is shown, or past the number of records.
+-- `record_ids::first_by_sort` meets its contract: each answer is shown, or past the number of records.
 -- Assumes nothing.
-use Rattle.identity.proofs.Search.{different-end}
+use Rattle.record_ids.proofs.Search.{different-end}
 use denote.Ref.{now}
 use mathlib.Core.Path.{_≡_, sym}
 use borrow.Author.Needs.{needs}
-use Rattle.identity.proofs.first_by_sort.Statement.{statement}
-use Rattle.identity.proofs.first_by_sort.Tie as tie
+use Rattle.record_ids.proofs.first_by_sort.Statement.{statement}
+use Rattle.record_ids.proofs.first_by_sort.Tie as tie
 
 slice-aggregate-differ : tie.Need-slice-aggregate-differ
 slice-aggregate-differ c = search needs
