@@ -1,5 +1,6 @@
 pub mod Below
 pub mod Bytes
+pub mod Column
 pub mod First
 pub mod Selections
 pub mod Written

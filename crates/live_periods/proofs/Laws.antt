@@ -1,19 +1,44 @@
--- Where no two of the spans gathered meet, live periods of a site share no day.
+-- Live periods gathered, and what it says of them that no two of their spans meet.
+--     gathered-more    what `gather` leaves with one entry more
+--     live-apart       where no two of the spans gathered meet, live periods of a site share no day
 -- Assumes nothing.
-use mathlib.Core.Path.{_≡_}
+use mathlib.Core.Path.{_≡_, sym, ap}
 use mathlib.Core.Logic.{_↔_}
-use mathlib.Core.Bool.{true}
 use mathlib.Core.List.{List}
-use Prim.Native.Nat.{ℕ}
+use mathlib.Core.Bool.{Bool, true, false, cond}
+use Prim.Native.Nat.{ℕ, _+_, _<_}
+use lib.ListN.{length, set}
 use Rattle.apart.specs.Apart.{Apart}
-use Rattle.apart.specs.Gathered.{Gathering}
-use Rattle.apart.proofs.Gathering.{days-apart}
+use Rattle.apart.specs.Gathered.{dayNumber, Gathering}
+use Rattle.apart.proofs.Gathering.{gathering-more, gathering-skip, gathering-kept, gathering-same, days-apart}
 use Rattle.entries.specs.declared.Entry.{Entry}
 use Rattle.entries.specs.Entries.{entryOf}
 use Rattle.soundness.specs.Meaning.{LivePeriod}
 use Rattle.soundness.specs.Sound.{isLivePeriod}
 use Rattle.soundness.proofs.Tests.{equal, both}
 use Rattle.live_periods.specs.LivePeriods.{liveAt, firstDay, lastDay, LiveApart}
+
+module _ (es : List Entry) where
+  -- the entry e at i is gathered, with the numbers v and w of its days
+  with-one : (i : ℕ) (firsts lasts : List ℕ) (count v w : ℕ) (live : Bool) → Gathering (liveAt es) (firstDay es) (lastDay es) firsts lasts i count
+      → count < length firsts → count < length lasts → v ≡ firstDay es i → w ≡ lastDay es i → liveAt es i ≡ live
+      → Gathering (liveAt es) (firstDay es) (lastDay es) (set firsts count v) (set lasts count w) (i + 1) (cond live (count + 1) count)
+  with-one i firsts lasts count v w true before room-first room-last begins ends live =
+      gathering-more (liveAt es) (firstDay es) (lastDay es) firsts lasts i count before v w live room-first room-last begins ends
+  with-one i firsts lasts count v w false before room-first room-last begins ends live =
+      gathering-skip (liveAt es) (firstDay es) (lastDay es) _ _ i count
+      (gathering-kept (liveAt es) (firstDay es) (lastDay es) firsts lasts i count before v w) live
+
+  pub gathered-more : (i : ℕ) (e : Entry) → e ≡ entryOf es i → {firsts firsts′ lasts lasts′ : List ℕ} {count count′ : ℕ}
+      → Gathering (liveAt es) (firstDay es) (lastDay es) firsts lasts i count → count < length firsts → count < length lasts
+      → firsts′ ≡ set firsts count (dayNumber (e .site) (e .start)) → lasts′ ≡ set lasts count (dayNumber (e .site) (e .end)) → count′ ≡ cond (isLivePeriod e) (count + 1) count
+      → Gathering (liveAt es) (firstDay es) (lastDay es) firsts′ lasts′ (i + 1) count′
+  gathered-more i e is {firsts} {firsts′} {lasts} {lasts′} {count} {count′} before room-first room-last begins ends counted =
+      gathering-same (liveAt es) (firstDay es) (lastDay es) begins ends counted
+      (with-one i firsts lasts count _ _ (isLivePeriod e) before room-first room-last
+      (ap (λ (x : Entry). dayNumber (x .site) (x .start)) is)
+      (ap (λ (x : Entry). dayNumber (x .site) (x .end)) is)
+      (ap isLivePeriod (sym is)))
 
 live-means : (e : Entry) → (isLivePeriod e ≡ true) ↔ LivePeriod e
 live-means e = both (equal (e .state) 1) (equal (e .kind) 2)

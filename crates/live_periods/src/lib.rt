@@ -1,53 +1,27 @@
-// Whether live periods of a site share no day, without comparing all pairs: their days are gathered as spans of numbers, and sorted.
+// The live periods of a ledger as spans of numbers, gathered one entry after the other, and the place of one that is likely to share a day with another.
+// Where the spans gathered do not meet, live periods of a site share no day (proofs/Laws, `live-apart`).
 ghost use mathlib.Core.Path.{_≡_};
-ghost use mathlib.Core.Bool.{true};
-ghost use Prim.Native.Nat.{_≤_, _*_};
-ghost use lib.ListN.{length};
-ghost use Rattle.apart.specs.Gathered.{Gathering};
-ghost use Rattle.entries.specs.Words.{entriesOf};
-ghost use Rattle.live_periods.specs.LivePeriods.{liveAt, firstDay, lastDay, LiveApart};
+ghost use mathlib.Core.Bool.{cond};
+ghost use Prim.Native.Nat.{_≤_, _<_, _+_, _*_};
+ghost use lib.ListN.{length, set};
+ghost use Rattle.apart.specs.Gathered.{dayNumber};
+ghost use Rattle.soundness.specs.Sound.{isLivePeriod};
+use entries::Entry;
 
-// Puts the numbers of the first and the last days of the live periods into `firsts` and `lasts`, in their order, and answers how many they are.
-fn gather(
-    words: &[u64],
-    amounts: &[i64],
-    used: usize,
-    firsts: &mut [u64],
-    lasts: &mut [u64],
-) -> usize
-    requires { ⌜ (used * 9 ≤ length (now words)) × (used * 2 ≤ length (now amounts)) × (used ≤ length (now firsts)) × (used ≤ length (now lasts)) ⌝ }
-    ensures { λ r. ⌜ (let es = entriesOf (now (words .entry)) (now (amounts .entry)) used in Gathering (liveAt es) (firstDay es) (lastDay es) (now (firsts .exit)) (now (lasts .exit)) used r) ⌝ }
+// Puts the numbers of the first and the last day of an entry after those gathered so far, of which there are `count`, and counts it where it is a live period.
+// Only the count depends on the entry: a branch around the stores would be hard to foresee.
+pub fn gather(e: Entry, count: usize, firsts: &mut [u64], lasts: &mut [u64]) -> usize
+    requires { ⌜ (count < length (now firsts)) × (count < length (now lasts)) ⌝ }
+    ensures { λ _. ⌜ now (firsts .exit) ≡ set (now (firsts .entry)) count (dayNumber (e .site) (e .start)) ⌝ }
+    ensures { λ _. ⌜ now (lasts .exit) ≡ set (now (lasts .entry)) count (dayNumber (e .site) (e .end)) ⌝ }
+    ensures { λ r. ⌜ r ≡ cond (isLivePeriod e) (count + 1) count ⌝ }
 {
-    let mut count: usize = 0;
-    let mut i: usize = 0;
-    while i < used {
-        let e = soundness::entry_in_use(words, amounts, used, i);
-        firsts[count] = apart::day_number(e.site, e.start);
-        lasts[count] = apart::day_number(e.site, e.end);
-        if soundness::is_live_period(e) {
-            count += 1;
-        }
-        i += 1;
+    firsts[count] = apart::day_number(e.site, e.start);
+    lasts[count] = apart::day_number(e.site, e.end);
+    if soundness::is_live_period(e) {
+        return count + 1;
     }
     count
-}
-
-// Whether live periods of a site are shown to share no day. Where the answer is false, nothing is known. The four columns are lent to hold the periods and their order.
-pub fn are_apart(
-    words: &[u64],
-    amounts: &[i64],
-    used: usize,
-    firsts: &mut [u64],
-    lasts: &mut [u64],
-    order: &mut [u16],
-    ranks: &mut [u16],
-) -> bool
-    requires { ⌜ (used * 9 ≤ length (now words)) × (used * 2 ≤ length (now amounts)) ⌝ }
-    requires { ⌜ (used ≤ length (now firsts)) × (length (now lasts) ≡ length (now firsts)) × (used ≤ length (now order)) × (used ≤ length (now ranks)) × (used ≤ 65535) ⌝ }
-    ensures { λ r. ⌜ (r ≡ true → LiveApart (entriesOf (now (words .entry)) (now (amounts .entry)) used) used) ⌝ }
-{
-    let count = gather(words, amounts, used, firsts, lasts);
-    apart::all_apart(firsts, lasts, count, order, ranks)
 }
 
 // Whether two spans, of which the first is to come before the second, meet. The contract claims nothing.
@@ -105,21 +79,21 @@ fn live_place(words: &[u64], amounts: &[i64], used: usize, others: usize) -> usi
     used + 1
 }
 
-// Where the periods are not shown to be apart: the place of one that is likely to share a day with an earlier one, by the order that `are_apart` left.
+// Where the `count` periods gathered are not shown to be apart: the place of one that is likely to share a day with an earlier one, by the order that `apart::all_apart` left.
 // It is not shown to do so: the contract claims only that the answer is not the used count.
 pub fn suspect(
     words: &[u64],
     amounts: &[i64],
     used: usize,
-    firsts: &mut [u64],
-    lasts: &mut [u64],
+    firsts: &[u64],
+    lasts: &[u64],
+    count: usize,
     order: &[u16],
 ) -> usize
     requires { ⌜ (used * 9 ≤ length (now words)) × (used * 2 ≤ length (now amounts)) ⌝ }
-    requires { ⌜ (used ≤ length (now firsts)) × (length (now lasts) ≡ length (now firsts)) × (used ≤ length (now order)) ⌝ }
+    requires { ⌜ (length (now lasts) ≡ length (now firsts)) × (count ≤ length (now order)) ⌝ }
     ensures { λ r. ⌜ (r ≡ used → ⊥) ⌝ }
 {
-    let count = gather(words, amounts, used, firsts, lasts);
     live_place(
         words,
         amounts,

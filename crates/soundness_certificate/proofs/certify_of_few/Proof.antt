@@ -1,8 +1,8 @@
 -- `soundness_certificate::certify_of_few` meets its contract: columns of zeros are long enough, and hold no place and no mark.
 -- Assumes nothing.
 use mathlib.Core.Path.{refl}
-use Prim.Native.Nat.{ℕ}
-use lib.ListN.{length-replicate}
+use Prim.Native.Nat.{ℕ, _≤_}
+use lib.ListN.{length, replicate, length-replicate}
 use Rattle.buckets.proofs.Laws.{zeros}
 use borrow.Author.Needs.{needs}
 use native.Mathlib.Omega.{arith}
@@ -30,12 +30,17 @@ slice-aggregate-certify-in-6 c = search needs
 slice-aggregate-certify-in-7 : tie.Need-slice-aggregate-certify-in-7
 slice-aggregate-certify-in-7 c = search needs
 
+slice-aggregate-certify-in-8 : tie.Need-slice-aggregate-certify-in-8
+slice-aggregate-certify-in-8 c = search needs
+
 certify-in-requires : tie.Need-certify-in-requires
 certify-in-requires c κs =
-    let s = c .before .before .before .before .before .before .before .before in
+    let s = c .before .before .before .before .before .before .before .before .before in
+    let pre = s .pre in
     let long = length-replicate {A = ℕ} 1024 0 in
     let buckets = length-replicate {A = ℕ} 8192 0 in
-    ((s .pre .0, s .pre .1, omega (arith, s .pre)), ((omega (arith, s .pre, long), refl, omega (arith, s .pre, long), omega (arith, buckets), omega (arith, buckets), omega (arith, s .pre, long), omega (arith, s .pre, long), omega (arith, s .pre, long)), (zeros 8192, zeros 1024)))
+    let room : s .args .used ≤ length (replicate {A = ℕ} 1024 0) = omega (arith, pre, long) in
+    ((pre .0, pre .1, omega (arith, pre)), ((room, room, room, refl, omega (arith, buckets), omega (arith, buckets), room, room, room), (zeros 8192, zeros 1024)))
 
 returns : tie.Need-returns
 returns c = search needs
@@ -51,5 +56,6 @@ certify-of-few-spec =
     slice-aggregate-certify-in-5
     slice-aggregate-certify-in-6
     slice-aggregate-certify-in-7
+    slice-aggregate-certify-in-8
     certify-in-requires
     returns)
