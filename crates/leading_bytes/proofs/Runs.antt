@@ -1,15 +1,19 @@
 -- A loop over the digits at the start of s, which has read i of them.
 --     run-digits, run-value    one digit more
 --     run-bound                i digits say less than the i-th power of ten
+--     no-run                   where none are read
 -- Assumes nothing.
-use mathlib.Core.Path.{_≡_, refl, subst}
+use mathlib.Core.Path.{_≡_, refl, sym, _∙_, subst}
 use mathlib.Core.List.{List, [], _∷_, _++_}
 use mathlib.Core.Bool.{true}
 use Prim.Native.Nat.{ℕ, _+_, _-_, _*_, _^_, _≤_, _<_}
 use native.Mathlib.Numerals.{add-one}
+use native.Mathlib.Omega.{arith}
 use borrow.Author.Tests.{le-leb}
 use lib.ListN.{length, take, getD}
 use lib.Seq.{take-suc, length-take-le}
+use Rattle.leading_bytes.specs.declared.Run.{Run}
+use Rattle.leading_bytes.specs.LeadingBytes.{DigitsRead}
 use Rattle.digits.specs.Digits.{isDigit, allDigits, followedBy, numberOf}
 use Rattle.digits.proofs.Laws.{both-true, number-bound}
 
@@ -34,3 +38,14 @@ module _ (s : List ℕ) (i : ℕ) where
 
   pub run-bound : i ≤ length s → allDigits (take i s) ≡ true → numberOf (take i s) < 10 ^ i
   run-bound h d = subst (λ (m : ℕ). numberOf (take i s) < 10 ^ m) (length-take-le i s h) (number-bound (take i s) d)
+
+-- no digits are the digits of any bytes
+pub no-run : (s : List ℕ) (r : Run) → r .len ≡ 0 → r .value ≡ 0 → DigitsRead s r
+unfolding allDigits followedBy
+no-run s r none zero =
+    record {
+      inside = omega (arith, none);
+      few = omega (arith, none);
+      digits = rw none refl;
+      value = zero ∙ sym (rw none refl);
+    }

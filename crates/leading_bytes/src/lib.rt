@@ -1,7 +1,7 @@
 // The start of a line's bytes: the digits or the text that stand there, the place at which the field there can end, and what is read of that field.
 ghost use mathlib.Core.Path.{_≡_};
 ghost use mathlib.Core.Bool.{true, false};
-ghost use Prim.Native.Nat.{_≤_};
+ghost use Prim.Native.Nat.{ℕ, _≤_, _<_};
 ghost use lib.ListN.{length, getD};
 ghost use Rattle.leading_bytes.specs.LeadingBytes.{Ends, DigitsRead, TextRead};
 
@@ -18,13 +18,53 @@ pub struct Reading {
     pub number: u64,
 }
 
-// The digits at the start of s, at most 15.
-pub fn leading_digits(s: &[u8]) -> Run
+fn no_digits() -> Run
+    ensures { λ r. ⌜ (r .len ≡ 0) × (r .value ≡ 0) ⌝ }
+{
+    Run { len: 0, value: 0 }
+}
+
+// Whether the first eight bytes of s are digits. There is no early exit, so that they are compared at once.
+fn begins_with_eight(s: &[u8]) -> bool
+    requires { ⌜ 8 ≤ length (now s) ⌝ }
+    ensures { λ r. ⌜ (r ≡ true → (k : ℕ) → k < 8 → (48 ≤ getD (now (s .entry)) k 0) × (getD (now (s .entry)) k 0 ≤ 57)) ⌝ }
+{
+    let mut all = true;
+    let mut i: usize = 0;
+    while i < 8 {
+        if 9 < std::num::wrapping_sub_u8(s[i], 48) {
+            all = false;
+        }
+        i += 1;
+    }
+    all
+}
+
+// The first eight digits of s, where it begins with so many.
+fn eight_digits(s: &[u8]) -> Run
+    requires { ⌜ 8 ≤ length (now s) ⌝ }
+    ensures { λ r. ⌜ DigitsRead (now (s .entry)) r ⌝ }
+{
+    if !begins_with_eight(s) {
+        return no_digits();
+    }
+    let mut value: u64 = 0;
+    let mut i: usize = 0;
+    while i < 8 {
+        value = value * 10 + (lists::wide(s[i]) - 48);
+        i += 1;
+    }
+    Run { len: 8, value }
+}
+
+// The digits at the start of s, at most 15, of which some are read.
+fn more_digits(s: &[u8], run: Run) -> Run
+    requires { ⌜ DigitsRead (now s) run ⌝ }
     ensures { λ r. ⌜ DigitsRead (now (s .entry)) r ⌝ }
 {
     let n = if s.len() < 15 { s.len() } else { 15 };
-    let mut value: u64 = 0;
-    let mut len: usize = 0;
+    let mut value = run.value;
+    let mut len = run.len;
     while len < n {
         let digit = std::num::wrapping_sub_u64(lists::wide(s[len]), 48);
         if 9 < digit {
@@ -34,6 +74,23 @@ pub fn leading_digits(s: &[u8]) -> Run
         len += 1;
     }
     Run { len, value }
+}
+
+// The digits at the start of s, at most 15.
+pub fn leading_digits(s: &[u8]) -> Run
+    ensures { λ r. ⌜ DigitsRead (now (s .entry)) r ⌝ }
+{
+    more_digits(s, no_digits())
+}
+
+// What leading_digits says, where there are likely eight digits or more.
+pub fn many_leading_digits(s: &[u8]) -> Run
+    ensures { λ r. ⌜ DigitsRead (now (s .entry)) r ⌝ }
+{
+    if s.len() < 8 {
+        return leading_digits(s);
+    }
+    more_digits(s, eight_digits(s))
 }
 
 // The bytes at the start of s before a comma, at most 4.

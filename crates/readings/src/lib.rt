@@ -5,18 +5,20 @@ ghost use mathlib.Core.Bool.{true};
 ghost use Rattle.calendar.specs.Calendar.{firstDays};
 ghost use Rattle.fields.specs.declared.FieldType.the-variants.{RecordId, Digits, Number, Date, DateTime, Char, Varchar};
 ghost use Rattle.field_types.specs.Codes.{typeOfCode};
+ghost use Rattle.leading_bytes.specs.LeadingBytes.{DigitsRead};
 ghost use Rattle.readings.specs.Readings.{FieldRead};
 use calendar::Day;
 use fields::FieldType;
 use leading_bytes::Reading;
+use leading_bytes::Run;
 use leading_bytes::misses;
 use leading_bytes::reads;
 
-// A Record, Parent or Reference ID.
-pub fn read_id(s: &[u8]) -> Reading
+// The ID that some digits at the start of s are, where they end the field.
+fn id_of(s: &[u8], run: Run) -> Reading
+    requires { ⌜ DigitsRead (now s) run ⌝ }
     ensures { λ r. ⌜ (r .fits ≡ true → FieldRead RecordId (now (s .entry)) r) ⌝ }
 {
-    let run = leading_bytes::leading_digits(s);
     let len = run.len;
     if !leading_bytes::ends_at(s, len) {
         return misses();
@@ -27,11 +29,25 @@ pub fn read_id(s: &[u8]) -> Reading
     reads(len, run.value + 1)
 }
 
+// A Record, Parent or Reference ID.
+pub fn read_id(s: &[u8]) -> Reading
+    ensures { λ r. ⌜ (r .fits ≡ true → FieldRead RecordId (now (s .entry)) r) ⌝ }
+{
+    id_of(s, leading_bytes::leading_digits(s))
+}
+
+// The same, where it is likely to have eight digits or more.
+fn read_long_id(s: &[u8]) -> Reading
+    ensures { λ r. ⌜ (r .fits ≡ true → FieldRead RecordId (now (s .entry)) r) ⌝ }
+{
+    id_of(s, leading_bytes::many_leading_digits(s))
+}
+
 // An ID of just so many digits.
 fn read_digits(s: &[u8], width: usize) -> Reading
     ensures { λ r. ⌜ (r .fits ≡ true → FieldRead (Digits width) (now (s .entry)) r) ⌝ }
 {
-    let id = read_id(s);
+    let id = read_long_id(s);
     let len = id.len;
     if len == 0 {
         return id;
@@ -46,7 +62,7 @@ fn read_date(days: &[u64], s: &[u8]) -> Reading
     requires { ⌜ now days ≡ firstDays ⌝ }
     ensures { λ r. ⌜ (r .fits ≡ true → FieldRead Date (now (s .entry)) r) ⌝ }
 {
-    let id = read_id(s);
+    let id = read_long_id(s);
     let fits = id.fits;
     let len = id.len;
     let number = id.number;

@@ -13,8 +13,8 @@ use native.Mathlib.Omega.{arith}
 use Rattle.readings.proofs.read_date.Statement.{statement}
 use Rattle.readings.proofs.read_date.Tie as tie
 
-read-id-requires : tie.Need-read-id-requires
-read-id-requires c κs = search needs
+read-long-id-requires : tie.Need-read-long-id-requires
+read-long-id-requires c κs = search needs
 
 misses-requires : tie.Need-misses-requires
 misses-requires c κs = search needs
@@ -22,11 +22,11 @@ misses-requires c κs = search needs
 returns : tie.Need-returns
 returns c = λ e. let z : _≡_ {A = ℕ} 0 1 = cc in absurd (omega arith)
 
-was-read : (c : tie.Else1) → FieldRead RecordId (now (c .before .before .before .before .args .s)) (c .before .read-id .result)
-was-read c = c .before .read-id .ensures (not-false _ (c .if1 .left))
+was-read : (c : tie.Else1) → FieldRead RecordId (now (c .before .before .before .before .args .s)) (c .before .read-long-id .result)
+was-read c = c .before .read-long-id .ensures (not-false _ (c .if1 .left))
 
 returns-2 : tie.Need-returns-2
-returns-2 c = λ e. id-empty (now (c .before .before .before .before .before .args .s)) (c .before .before .read-id .result) (was-read (c .before)) Date (c .if2 .taken)
+returns-2 c = λ e. id-empty (now (c .before .before .before .before .before .args .s)) (c .before .before .read-long-id .result) (was-read (c .before)) Date (c .if2 .taken)
 
 misses-requires-2 : tie.Need-misses-requires-2
 misses-requires-2 c κs = search needs
@@ -35,7 +35,7 @@ returns-3 : tie.Need-returns-3
 returns-3 c = λ e. let z : _≡_ {A = ℕ} 0 1 = cc in absurd (omega arith)
 
 sub-date-day : tie.Need-sub-date-day
-sub-date-day c = omega (arith, id-number (now (c .before .before .before .before .before .before .args .s)) (c .before .before .before .read-id .result) (was-read (c .before .before)) (omega arith) .2)
+sub-date-day c = omega (arith, id-number (now (c .before .before .before .before .before .before .args .s)) (c .before .before .before .read-long-id .result) (was-read (c .before .before)) (omega arith) .2)
 
 date-day-requires : tie.Need-date-day-requires
 date-day-requires c κs = search needs
@@ -45,7 +45,7 @@ enum-known-day c = search needs
 
 add-reads : tie.Need-add-reads
 add-reads c =
-    let n = c .before .before .before .before .before .before .before .read-id .result .number - 1 in
+    let n = c .before .before .before .before .before .before .before .read-long-id .result .number - 1 in
     let day = c .before .day .given in
     record { fits = omega (arith, date-bound (n / 10000) (n / 100 % 100) (n % 100) (day .0 .0) (sym (c .before .before .before .date-day .ensures) ∙ day .1)) }
 
@@ -63,7 +63,7 @@ returns-4 c =
     let day = c .before .before .day .given in
     let p = c .before .before .before .before .before in
     λ e.
-    date-read (now (p .before .before .before .before .before .before .args .s)) (p .before .before .before .read-id .result) (was-read (p .before .before)) (omega arith) (c .reads .result) (day .0 .0) (p .if3 .left)
+    date-read (now (p .before .before .before .before .before .before .args .s)) (p .before .before .before .read-long-id .result) (was-read (p .before .before)) (omega arith) (c .reads .result) (day .0 .0) (p .if3 .left)
     (sym (day .1) ∙ c .before .before .before .before .date-day .ensures) (c .reads .ensures .1) (c .reads .ensures .2)
 
 returns-5 : tie.Need-returns-5
@@ -73,7 +73,7 @@ pub read-date-spec : {M : Type 1} → statement M
 read-date-spec =
     tie.close
     (tie.spec
-    read-id-requires
+    read-long-id-requires
     misses-requires
     returns
     returns-2

@@ -10,20 +10,20 @@ use native.Mathlib.Omega.{arith}
 use Rattle.readings.proofs.read_digits.Statement.{statement}
 use Rattle.readings.proofs.read_digits.Tie as tie
 
-read-id-requires : tie.Need-read-id-requires
-read-id-requires c κs = search needs
+read-long-id-requires : tie.Need-read-long-id-requires
+read-long-id-requires c κs = search needs
 
 returns : tie.Need-returns
 returns c =
     let p = c .before in
     let args = p .before .before .args in
-    λ e. id-empty (now (args .s)) (p .read-id .result) (p .read-id .ensures e) (Digits (args .width)) (c .if1 .taken)
+    λ e. id-empty (now (args .s)) (p .read-long-id .result) (p .read-long-id .ensures e) (Digits (args .width)) (c .if1 .taken)
 
 returns-2 : tie.Need-returns-2
 returns-2 c =
     let p = c .before .before in
     let args = p .before .before .args in
-    λ e. fixed-read (now (args .s)) (p .read-id .result) (p .read-id .ensures e) (omega arith) (args .width) (c .if2 .taken)
+    λ e. fixed-read (now (args .s)) (p .read-long-id .result) (p .read-long-id .ensures e) (omega arith) (args .width) (c .if2 .taken)
 
 misses-requires : tie.Need-misses-requires
 misses-requires c κs = search needs
@@ -33,4 +33,4 @@ returns-3 c = λ e. let z : _≡_ {A = ℕ} 0 1 = cc in absurd (omega arith)
 
 pub read-digits-spec : {M : Type 1} → statement M
 read-digits-spec =
-    tie.close (tie.spec read-id-requires returns returns-2 misses-requires returns-3)
+    tie.close (tie.spec read-long-id-requires returns returns-2 misses-requires returns-3)

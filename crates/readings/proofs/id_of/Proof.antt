@@ -1,4 +1,4 @@
--- `readings::read_id` meets its contract: the digits at the start end the field, so they are its ID, or the field is empty.
+-- `readings::id_of` meets its contract: the digits at the start end the field, so they are its ID, or the field is empty.
 -- Assumes nothing.
 use Rattle.readings.proofs.Ids.{id-bound, id-read}
 use Rattle.readings.proofs.Fields.{empty-read}
@@ -10,14 +10,11 @@ use Prim.Native.Nat.{ℕ}
 use mathlib.Core.Path.{_≡_, subst}
 use borrow.Author.Needs.{needs}
 use native.Mathlib.Omega.{arith}
-use Rattle.readings.proofs.read_id.Statement.{statement}
-use Rattle.readings.proofs.read_id.Tie as tie
-
-leading-digits-requires : tie.Need-leading-digits-requires
-leading-digits-requires c κs = search needs
+use Rattle.readings.proofs.id_of.Statement.{statement}
+use Rattle.readings.proofs.id_of.Tie as tie
 
 ends-at-requires : tie.Need-ends-at-requires
-ends-at-requires c κs = search needs
+ends-at-requires c κs = c .before .pre .inside
 
 misses-requires : tie.Need-misses-requires
 misses-requires c κs = search needs
@@ -28,36 +25,35 @@ returns c = λ e. let z : _≡_ {A = ℕ} 0 1 = cc in absurd (omega arith)
 reads-requires : tie.Need-reads-requires
 reads-requires c κs = search needs
 
-ended : (c : tie.Else1) → Ends (now (c .before .before .before .before .args .s)) (c .before .before .leading-digits .result .len)
+ended : (c : tie.Else1) → Ends (now (c .before .before .before .args .s)) (c .before .before .before .args .run .len)
 ended c = c .before .ends-at .ensures (not-false _ (c .if1 .left))
 
 returns-2 : tie.Need-returns-2
 returns-2 c =
-    let s = now (c .before .before .before .before .before .before .args .s) in
+    let s = now (c .before .before .before .before .before .args .s) in
     λ e.
     empty-read RecordId s (c .reads .result)
     (subst (λ (k : ℕ). Ends s k) (c .before .if2 .taken) (ended (c .before .before))) (c .reads .ensures .1) (c .reads .ensures .2)
 
 add-reads : tie.Need-add-reads
 add-reads c =
-    let p = c .before .before .before .before in
-    record { fits = omega (arith, id-bound (now (p .before .before .args .s)) (p .leading-digits .result) (p .leading-digits .ensures)) }
+    let start = c .before .before .before .before .before in
+    record { fits = omega (arith, id-bound (now (start .args .s)) (start .args .run) (start .pre)) }
 
 reads-requires-2 : tie.Need-reads-requires-2
 reads-requires-2 c κs = search needs
 
 returns-3 : tie.Need-returns-3
 returns-3 c =
-    let p = c .before .before .before .before .before in
+    let start = c .before .before .before .before .before .before in
     λ e.
-    id-read (now (p .before .before .args .s)) (p .leading-digits .result) (p .leading-digits .ensures) (c .reads2 .result) (ended (c .before .before .before)) (omega arith)
+    id-read (now (start .args .s)) (start .args .run) (start .pre) (c .reads2 .result) (ended (c .before .before .before)) (omega arith)
     (c .reads2 .ensures .1) (c .reads2 .ensures .2)
 
-pub read-id-spec : {M : Type 1} → statement M
-read-id-spec =
+pub id-of-spec : {M : Type 1} → statement M
+id-of-spec =
     tie.close
     (tie.spec
-    leading-digits-requires
     ends-at-requires
     misses-requires
     returns
