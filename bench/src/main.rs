@@ -23,7 +23,7 @@ use reference::file::RecordType;
 use reference::generate::RETAILER;
 use reference::ledger::{sound, Entry};
 use std::hint::black_box;
-use timing::{medians, report, report_growth, Medians};
+use timing::{medians, medians_of_kinds, report, report_growth, Medians};
 
 const DISTRIBUTORS: &[u8] = b"0040";
 
@@ -48,11 +48,11 @@ fn check_medians(draw: impl FnMut() -> Vec<u8>, expected: (u32, u32)) -> Medians
 
 /// Times files of each number of lines, and answers the medians.
 fn report_lines(what: &str, mut draw: impl FnMut(usize) -> Vec<u8>) -> [Medians; 3] {
-    LINES.map(|lines| {
-        let medians = check_medians(|| draw(lines), PASSES);
-        report(&format!("check, {lines} lines, {what}"), &medians);
-        medians
-    })
+    let medians = medians_of_kinds(|size| draw(LINES[size]), PASSES, |file| proved_check(file), |file| reference_check(file));
+    for (lines, medians) in LINES.iter().zip(&medians) {
+        report(&format!("check, {lines} lines, {what}"), medians);
+    }
+    medians
 }
 
 /// Times files of 4,096 lines that a test refuses. The line is another one in each file: that both sides answer the same is compare's.
@@ -114,12 +114,11 @@ fn ledger_of(run: Vec<Entry>) -> Ledger {
 
 fn report_soundness() {
     let mut ledgers = Ledgers::new();
-    let [smallest, _, largest] = ENTRIES.map(|entries| {
-        let medians = medians(|| ledger_of(ledgers.full(entries)), true, proved_sound, reference_sound);
-        report(&format!("soundness, {entries} entries"), &medians);
-        medians
-    });
-    report_growth("soundness, from 1000 to 8192 entries", &smallest, &largest);
+    let sizes: [Medians; 3] = medians_of_kinds(|size| ledger_of(ledgers.full(ENTRIES[size])), true, proved_sound, reference_sound);
+    for (entries, medians) in ENTRIES.iter().zip(&sizes) {
+        report(&format!("soundness, {entries} entries"), medians);
+    }
+    report_growth("soundness, from 1000 to 8192 entries", &sizes[0], &sizes[2]);
     let repeated = || ledger_of(ledgers.with_a_repeated_key(8_192));
     report("soundness, 8192 entries, the last with a key of another", &medians(repeated, false, proved_sound, reference_sound));
     let one_bucket = || ledger_of(ledgers.in_one_bucket(8_192));

@@ -50,29 +50,49 @@ fn median(mut times: Vec<f64>) -> f64 {
     times[times.len() / 2]
 }
 
+/// The times of both sides on inputs of one kind, and the last of these inputs.
+struct Kind<Input> {
+    proved: Vec<f64>,
+    reference: Vec<f64>,
+    earlier: Input,
+}
+
 /// Times both sides, one after the other, on inputs that neither has met before. The side that comes second finds the input in the
 /// cache, so each side is the first on every other input. Both must give the expected answer.
+///
+/// There may be several kinds of inputs, say of several sizes. They take turns: where the machine changes its speed, it does so for all.
+pub fn medians_of_kinds<const KINDS: usize, Input, Answer: PartialEq + Debug>(
+    mut draw: impl FnMut(usize) -> Input,
+    expected: Answer,
+    proved: impl Fn(&Input) -> Answer,
+    reference: impl Fn(&Input) -> Answer,
+) -> [Medians; KINDS] {
+    let mut kinds: [Kind<Input>; KINDS] = std::array::from_fn(|kind| Kind { proved: Vec::new(), reference: Vec::new(), earlier: draw(kind) });
+    for turn in 0..INPUTS {
+        for (number, kind) in kinds.iter_mut().enumerate() {
+            let fresh = draw(number);
+            let mut sides = [(&proved as &dyn Fn(&Input) -> Answer, &mut kind.proved), (&reference, &mut kind.reference)];
+            sides.rotate_left(turn % 2);
+            for (side, times) in sides {
+                let (answer, time) = timed(side, &kind.earlier, &fresh);
+                assert_eq!(answer, expected);
+                times.push(time);
+            }
+            kind.earlier = fresh;
+        }
+    }
+    kinds.map(|kind| Medians { proved: median(kind.proved), reference: median(kind.reference) })
+}
+
+/// The same for inputs of one kind.
 pub fn medians<Input, Answer: PartialEq + Debug>(
     mut draw: impl FnMut() -> Input,
     expected: Answer,
     proved: impl Fn(&Input) -> Answer,
     reference: impl Fn(&Input) -> Answer,
 ) -> Medians {
-    let mut proved_times = Vec::new();
-    let mut reference_times = Vec::new();
-    let mut earlier = draw();
-    for turn in 0..INPUTS {
-        let fresh = draw();
-        let mut sides = [(&proved as &dyn Fn(&Input) -> Answer, &mut proved_times), (&reference, &mut reference_times)];
-        sides.rotate_left(turn % 2);
-        for (side, times) in sides {
-            let (answer, time) = timed(side, &earlier, &fresh);
-            assert_eq!(answer, expected);
-            times.push(time);
-        }
-        earlier = fresh;
-    }
-    Medians { proved: median(proved_times), reference: median(reference_times) }
+    let [medians] = medians_of_kinds(|_| draw(), expected, proved, reference);
+    medians
 }
 
 /// A line with the medians of a case and their ratio.
