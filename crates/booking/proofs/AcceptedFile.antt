@@ -1,20 +1,19 @@
 -- What an accepted booking tells of the file's records and the ledger: the record Passes.
 --     accepted-passes      an accepted call's file passes
---     all-named            39 and 40 passed: each cancel in turn names an entry that has the opposite amounts
+--     all-named            39 and 40 passed: each cancel in turn names an entry, and that has the opposite amounts
 -- Assumes nothing.
-use mathlib.Core.Path.{_≡_, refl, sym, ap, _∙_, subst}
-use mathlib.Core.Logic.{_↔_, _⊎_, inl, inr, ⊎-elim}
-use mathlib.Core.Bool.{Bool, true, false, not, _&&_, _||_, cond, true≢false, false≢true}
+use mathlib.Core.Path.{_≡_, refl, sym, ap, subst}
+use mathlib.Core.Logic.{inl, inr, ⊎-elim}
+use mathlib.Core.Bool.{Bool, true, false, not, _&&_, cond, true≢false}
 use mathlib.Core.Option.{Option, none, some}
-use mathlib.Core.List.{List, [], _∷_, _++_, map}
-use Prim.Native.Nat.{ℕ, zero, suc, _+_, _^_, _≤_, _<_}
+use mathlib.Core.List.{List, [], _∷_, map}
+use Prim.Native.Nat.{ℕ, suc, _^_, _≤_, _<_}
 use native.Mathlib.Omega.{arith}
 use borrow.Author.Tests.{ne-eqb}
 use lib.Dec.{T, eqb, eqb→eq}
-use lib.IntN.{ℤ, pos, natAbs}
-use lib.ListN.{length, getD, take}
-use Rattle.lists.specs.Selections.{filter, any, all, distinct, sum}
-use Rattle.lists.proofs.Selections.{is-true, from-true, both, and-both, and-left, and-right, cases, neither}
+use lib.ListN.{length, getD}
+use Rattle.lists.specs.Selections.{filter, any, all, distinct}
+use Rattle.lists.proofs.Selections.{from-true, not-false, and-both, and-right, cases, neither}
 use Rattle.text.specs.Text.{linesOf}
 use Rattle.validation.specs.Accepted.{Bill, BillFile, billFile, billsIn, idIn}
 use Rattle.validation.specs.Fits.{BillFits, FileFits, Distinct}
@@ -26,22 +25,15 @@ use Rattle.entries.specs.declared.Entry.{Entry}
 use Rattle.soundness.specs.Sound.{entryFits, opposite}
 use Rattle.soundness.specs.Meaning.{EntryFits}
 use Rattle.soundness.proofs.Meaning.{entry-means}
-use Rattle.booking.specs.Booking.{Settings, cancels, entry, fileEntry, orZero, namesEntry, namedEntry, cancelNamed, firstCancel, isUnnamed, isUnopposed, firstUnnamed, firstUnopposed, isStored, hasStored, isBooked}
-use Rattle.booking.specs.Passes.{Key, sameKey, keyOf, keys, billFits, AllNamed, Passes}
-use Rattle.booking.specs.Acceptable.{LedgerPasses, Acceptable}
-use Rattle.booking.proofs.Accepting.{search-on, accepted-exactly}
+use Rattle.booking.specs.Booking.{cancels, entry, fileEntry, orZero, namedEntry, cancelNamed, firstCancel, isUnnamed, isUnopposed, firstUnnamed, firstUnopposed, isStored, hasStored, Input, fileOf, ledgerOf, isBooked}
+use Rattle.booking.specs.Passes.{Key, sameKey, keyOf, keys, billFits, isOpposed, AllNamed, Passes}
+use Rattle.booking.specs.Acceptable.{noBill, billAt}
+use Rattle.booking.proofs.Accepting.{LedgerPasses, search-on, accepted-unrefused}
 
 -- ---- tests 39 and 40
-named-any : (c : Bill) (l : List Entry) → isUnnamed (namedEntry c l) ≡ false → isUnopposed c (namedEntry c l) ≡ false → any (λ e. namesEntry c e && opposite (entry c 4) e) l ≡ true
-named-any c [] e f = absurd (true≢false e)
-named-any c (x ∷ l) e f = go (named-any c l) (namesEntry c x) (opposite (entry c 4) x) refl refl
-  where
-    go : (isUnnamed (namedEntry c l) ≡ false → isUnopposed c (namedEntry c l) ≡ false → any (λ e. namesEntry c e && opposite (entry c 4) e) l ≡ true) → (n o : Bool) → namesEntry c x ≡ n → opposite (entry c 4) x ≡ o → ((n && o) || any (λ e. namesEntry c e && opposite (entry c 4) e) l) ≡ true
-    go rest true true p q = refl
-    go rest true false p q = absurd (true≢false (sym (ap not q) ∙ sym (ap (λ (b : Bool). isUnopposed c (cond b (some x) (namedEntry c l))) p) ∙ f))
-    go rest false o p q =
-        rest (sym (ap (λ (b : Bool). isUnnamed (cond b (some x) (namedEntry c l))) p) ∙ e)
-        (sym (ap (λ (b : Bool). isUnopposed c (cond b (some x) (namedEntry c l))) p) ∙ f)
+named-opposed : (c : Bill) (e : Option Entry) → isUnnamed e ≡ false → isUnopposed c e ≡ false → isOpposed c e ≡ true
+named-opposed c none n o = absurd (true≢false n)
+named-opposed c (some e) n o = not-false (opposite (entry c 4) e) o
 
 pub all-named : (l : List Entry) (bs : List Bill) → firstCancel (λ l c. isUnnamed (namedEntry c l)) l bs ≡ length bs → firstCancel (λ l c. isUnopposed c (namedEntry c l)) l bs ≡ length bs
     → AllNamed l (filter (λ b. b .cancel) bs)
@@ -56,7 +48,7 @@ all-named l (b ∷ bs) e f =
         → firstCancel (λ l c. isUnnamed (namedEntry c l)) (cond y (cancelNamed b l) l) bs ≡ length bs
         → firstCancel (λ l c. isUnopposed c (namedEntry c l)) (cond y (cancelNamed b l) l) bs ≡ length bs
         → AllNamed l (cond y (b ∷ filter (λ b. b .cancel) bs) (filter (λ b. b .cancel) bs))
-    go rest true n o e f = (from-true (named-any b l n o), rest (cancelNamed b l) e f)
+    go rest true n o e f = (named-opposed b (namedEntry b l) n o, rest (cancelNamed b l) e f)
     go rest false n o e f = rest l e f
 
 -- ---- test 102
@@ -169,18 +161,15 @@ passes retailer distributors lines places l p t =
     let stored = neither (isStored l (billFile lines .sender) (billFile lines .recordId)) (any (λ b. isStored l (b .sender) (b .recordId)) (billsIn lines)) (t .unstored) in
     record {
       file-fits = fits (fileEntry (billFile lines)) (file-entry (billFile lines) (file-fits p));
-      bills-fit = all-at billFits no-bill (billsIn lines) (λ k h. bill-fits-all (getD (billsIn lines) k no-bill) (bill-fits p no-bill k h));
+      bills-fit = all-at billFits noBill (billsIn lines) (λ k h. bill-fits-all (billAt (billsIn lines) k) (bill-fits p noBill k h));
       keys-once = distinct-keys (keys (billFile lines)) (subst (λ (ids : List ℕ). Distinct (idIn (lineAt lines 0) ∷ ids)) (sym (ids-of (billsIn lines))) (bill-ids p));
       total = trailer-total p;
       named = all-named l (billsIn lines) (t .named) (t .opposed);
       unstored = rw (stored .0) (all-unstored l (billsIn lines) (stored .1));
       room = t .room;
     }
-  where
-    no-bill : Bill
-    no-bill = record { sender = 0; commodity = 0; kind = 0; recordId = 0; site = 0; start = 0; end = 0; charge = pos 0; usage = pos 0; cancel = false; reference = none }
 
-pub accepted-passes : (s : Settings) (file : List ℕ) (run : List Entry) (used : ℕ) → isBooked s file run used ≡ true → Passes (length run) (take used run) (billFile (linesOf file))
-accepted-passes s file run used e =
-    let a = accepted-exactly s file run used .0 e in
-    passes (s .retailer) (s .distributors) (linesOf file) (length run) (take used run) (a .passing) (a .ledger)
+pub accepted-passes : (i : Input) → isBooked i ≡ true → Passes (length (i .run)) (ledgerOf i) (fileOf i)
+accepted-passes i e =
+    let u = accepted-unrefused i .0 e in
+    passes (i .settings .retailer) (i .settings .distributors) (linesOf (i .file)) (length (i .run)) (ledgerOf i) (u .passing) (u .ledger)

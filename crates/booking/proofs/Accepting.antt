@@ -1,44 +1,82 @@
--- Which calls Book accepts.
---     accepted-exactly      those that none of the refusals applies to, in plain terms
---     accepted-none         the same of the list of refusals
+-- Which calls Book accepts: those that none of the refusals applies to.
+--     none-refuses          a list of refusals refuses nothing just where none of them applies, however many they are
+--     book-never            no refusal of Book's that applies has a number that no test has and that stands in neither of its own lists
+--     accepted-unrefused    the accepted calls; proofs/Acceptance says the same in plain terms
 -- Assumes nothing.
-use mathlib.Core.Path.{_≡_, refl, sym, ap, _∙_}
+use mathlib.Core.Path.{_≡_, refl, ap, subst}
 use mathlib.Core.Logic.{_↔_, Iff·trans}
 use mathlib.Core.Bool.{Bool, true, false, not, _&&_, cond, true≢false}
 use mathlib.Core.Option.{Option, none, some}
 use mathlib.Core.List.{List, [], _∷_, _++_}
 use Prim.Native.Nat.{ℕ, suc, _+_, _≤_, _<_}
 use native.Mathlib.Omega.{arith}
-use native.Mathlib.Decide.{decLt}
 use borrow.Author.Tests.{eqb-true, eq-eqb, ltb-false, le-ltb}
 use lib.Dec.{T, eqb, ltb}
-use lib.ListN.{length, getD, take}
+use lib.ListN.{length}
+use Rattle.lists.specs.Selections.{all}
+use Rattle.lists.proofs.Selections.{both, not-false}
 use Rattle.text.specs.Text.{linesOf}
 use Rattle.refusals.specs.declared.Outcome.{Outcome}
-use Rattle.refusals.specs.Check.{outcome, passed, atLine, house, firstRefusal, settingsFit, isTooLarge, formatRefusals, testRefusals}
+use Rattle.refusals.specs.Check.{outcome, firstRefusal, testsTo12, testsFrom14, settingsFit, isTooLarge}
+use Rattle.refusals.proofs.Outcomes.{AllOf, all-append, all-line, isTest, tests-parts, to-12-all, from-14-all}
+use Rattle.refusals.proofs.Refusals.{NoneOf, none-passes, append-none, none-append, line-none, none-line}
 use Rattle.validation.specs.Passing.{Passing}
-use Rattle.validation.specs.Accepted.{Bill, BillFile, billFile}
-use Rattle.refusals.proofs.Outcomes.{AllOf, Refused, tests-refused, few-lines}
-use Rattle.refusals.proofs.Refusals.{allNumbered, both-numbered, line-numbered, numbered, NoneOf, none-passes, passes-none, append-none, none-append}
+use Rattle.validation.specs.Accepted.{Bill, BillFile}
 use Rattle.validation.proofs.Passing.{tests-none}
 use Rattle.entries.specs.declared.Entry.{Entry}
 use Rattle.soundness.specs.Sound.{isSound}
-use Rattle.booking.specs.Booking.{Settings, cancelNamed, firstCancel, hasFile, firstUnnamed, firstUnopposed, hasStored, atBill, ledgerRefusals, bookRefusals, bookRefusal, isBooked}
-use Rattle.booking.specs.Acceptable.{LedgerPasses, Acceptable}
+use Rattle.booking.specs.Booking.{cancelNamed, firstCancel, hasFile, firstUnnamed, firstUnopposed, hasStored, Refusal, outcomes, ledgerRefusals, Input, fileOf, ledgerOf, openingRefusals, bookRefusals, bookRefusal, isBooked}
 
--- ---- two lists of refusals, of which none refuses
-none-both : (xs ys : List (Option Outcome)) → AllOf Refused xs → T (allNumbered ys) → firstRefusal (xs ++ ys) .number ≡ 0 → NoneOf xs × NoneOf ys
+-- ════ a list of refusals
+
+-- none of them applies
+abbrev pub AllPass : List Refusal → Type 0
+AllPass [] = Unit {0}
+AllPass (r ∷ rs) = (r .fails ≡ false) × AllPass rs
+
+pub none-refuses : (rs : List Refusal) → NoneOf (outcomes rs) ↔ AllPass rs
+none-refuses [] = (λ h. tt, λ h. tt)
+none-refuses (r ∷ rs) = (
+  λ h. let q = line-none (r .number) (r .line) (r .fails) (outcomes rs) h in (q .0, none-refuses rs .0 (q .1)),
+  λ h. none-line (r .number) (r .line) (r .fails) (outcomes rs) (h .0) (none-refuses rs .1 (h .1)),
+)
+
+-- the one of a number
+abbrev failsAt : ℕ → List Refusal → Bool
+failsAt n [] = false
+failsAt n (r ∷ rs) = cond (eqb (r .number) n) (r .fails) (failsAt n rs)
+
+passed-at : (n : ℕ) (rs : List Refusal) → AllPass rs → failsAt n rs ≡ false
+passed-at n [] h = refl
+passed-at n (r ∷ rs) h = go (eqb (r .number) n) (passed-at n rs (h .1))
+  where
+    go : (b : Bool) → failsAt n rs ≡ false → cond b (r .fails) (failsAt n rs) ≡ false
+    go true later = h .0
+    go false later = later
+
+-- an outcome that hasn't this number
+abbrev pub Unlike : ℕ → Outcome → Type 0
+Unlike n o = o .number ≡ n → ⊥
+
+-- none of them that applies has this number
+abbrev pub never : ℕ → List Refusal → Bool
+never n rs = all (λ r. not (eqb (r .number) n && r .fails)) rs
+
+never-number : (n : ℕ) (rs : List Refusal) → T (never n rs) → AllOf (Unlike n) (outcomes rs)
+unfolding AllOf
+never-number n [] t = tt
+never-number n (r ∷ rs) t =
+    let h = both (not (eqb (r .number) n && r .fails)) (never n rs) t in
+    all-line (Unlike n) (r .number) (r .line) (r .fails) (outcomes rs) (λ e q. subst T (λ i. not (eq-eqb (r .number) n q i && e i)) (h .0)) (never-number n rs (h .1))
+
+first-none : (rs : List (Option Outcome)) → AllOf (Unlike 0) rs → firstRefusal rs .number ≡ 0 → NoneOf rs
 unfolding AllOf firstRefusal
-none-both [] ys all t e = (tt, passes-none ys t e)
-none-both (none ∷ xs) ys all t e = none-both xs ys all t e
-none-both (some o ∷ xs) ys all t e = absurd (omega (arith, all .0 .numbered, e))
+first-none [] h e = tt
+first-none (none ∷ rs) h e = first-none rs h e
+first-none (some o ∷ rs) h e = h .0 e
 
--- a file of no lines is refused by test 2
-no-lines : (retailer : ℕ) (distributors : List ℕ) (lines : List (List ℕ)) (ys : List (Option Outcome)) → length lines ≡ 0 → firstRefusal (testRefusals retailer distributors lines ++ ys) ≡ outcome 2 1
-unfolding testRefusals formatRefusals firstRefusal
-no-lines retailer distributors lines ys e = rw e
+-- ════ tests that read the ledger
 
--- ---- tests that read the ledger
 -- a search that reaches the end finds nothing here, and nothing further on
 pub search-on : (t : Bool) (m n : ℕ) → (cond t 0 (suc m) ≡ suc n) ↔ ((t ≡ false) × (m ≡ n))
 search-on true m n = (λ h. absurd (omega arith), λ h. absurd (true≢false (h .0)))
@@ -52,35 +90,20 @@ first-cancel-most fails l (b ∷ bs) = go (b .cancel && fails l b) (first-cancel
     go true h = omega arith
     go false h = omega arith
 
--- five tests, none of which fails
-five-none : (a b c d e : Bool) (m n : ℕ)
-    → NoneOf (atLine 8 1 a ∷ atLine 39 m b ∷ atLine 40 n c ∷ house 102 d ∷ house 101 e ∷ []) ↔ ((a ≡ false) × (b ≡ false) × (c ≡ false) × (d ≡ false) × (e ≡ false))
-five-none true b c d e m n = (λ h. absurd h, λ h. true≢false (h .0))
-five-none false true c d e m n = (λ h. absurd h, λ h. true≢false (h .1))
-five-none false false true d e m n = (λ h. absurd h, λ h. true≢false (h .2))
-five-none false false false true e m n = (λ h. absurd h, λ h. true≢false (h .3))
-five-none false false false false true m n = (λ h. absurd h, λ h. true≢false (h .4))
-five-none false false false false false m n = (λ h. (refl, refl, refl, refl, refl), λ h. tt)
+-- what the searches of these tests answer
+pub record LedgerPasses (places : ℕ) (l : List Entry) (file : BillFile) : Type 0 where
+  -- 8
+  pub new-file : hasFile l file ≡ false
+  -- 39
+  pub named : firstUnnamed l file ≡ length (file .bills)
+  -- 40
+  pub opposed : firstUnopposed l file ≡ length (file .bills)
+  -- 102
+  pub unstored : hasStored l file ≡ false
+  -- 101
+  pub room : length l + 1 + length (file .bills) ≤ places
 
 module _ (places : ℕ) (l : List Entry) (file : BillFile) where
-  ledger-numbered : T (allNumbered (ledgerRefusals places l file))
-  unfolding ledgerRefusals
-  ledger-numbered =
-      let a = hasFile l file in
-      let b = ltb (firstUnnamed l file) (length (file .bills)) in
-      let c = ltb (firstUnopposed l file) (length (file .bills)) in
-      let d = hasStored l file in
-      let e = ltb places (length l + 1 + length (file .bills)) in
-      go a b c d e (getD (file .lines) (firstUnnamed l file) 0) (getD (file .lines) (firstUnopposed l file) 0)
-    where
-      go : (a b c d e : Bool) (m n : ℕ) → T (allNumbered (atLine 8 1 a ∷ atLine 39 m b ∷ atLine 40 n c ∷ house 102 d ∷ house 101 e ∷ []))
-      go a b c d e m n =
-          both-numbered (numbered (atLine 8 1 a)) _ (line-numbered 8 1 a tt)
-          (both-numbered (numbered (atLine 39 m b)) _ (line-numbered 39 m b tt)
-          (both-numbered (numbered (atLine 40 n c)) _ (line-numbered 40 n c tt)
-          (both-numbered (numbered (atLine 102 0 d)) _ (line-numbered 102 0 d tt)
-          (both-numbered (numbered (atLine 101 0 e)) true (line-numbered 101 0 e tt) tt))))
-
   place-none : (place : ℕ) → place ≤ length (file .bills) → (ltb place (length (file .bills)) ≡ false) ↔ (place ≡ length (file .bills))
   place-none place most = (λ e. omega (arith, ltb-false place (length (file .bills)) e), λ e. le-ltb place (length (file .bills)) (omega arith))
 
@@ -92,83 +115,126 @@ module _ (places : ℕ) (l : List Entry) (file : BillFile) where
   unfolding firstUnopposed
   unopposed-most = first-cancel-most _ l (file .bills)
 
-  pub ledger-none : NoneOf (ledgerRefusals places l file) ↔ LedgerPasses places l file
+  ledger-passes : AllPass (ledgerRefusals places l file) ↔ LedgerPasses places l file
   unfolding ledgerRefusals
-  ledger-none = (
-    λ h.
-        let r = five-none (hasFile l file) (ltb (firstUnnamed l file) (length (file .bills))) (ltb (firstUnopposed l file) (length (file .bills))) (hasStored l file) (ltb places (length l + 1 + length (file .bills)))
-        (getD (file .lines) (firstUnnamed l file) 0) (getD (file .lines) (firstUnopposed l file) 0) .0 h in
-        record {
-          new-file = r .0;
-          named = place-none (firstUnnamed l file) unnamed-most .0 (r .1);
-          opposed = place-none (firstUnopposed l file) unopposed-most .0 (r .2);
-          unstored = r .3;
-          room = ltb-false places (length l + 1 + length (file .bills)) (r .4);
-        },
-    λ p.
-        five-none (hasFile l file) (ltb (firstUnnamed l file) (length (file .bills))) (ltb (firstUnopposed l file) (length (file .bills))) (hasStored l file) (ltb places (length l + 1 + length (file .bills)))
-        (getD (file .lines) (firstUnnamed l file) 0) (getD (file .lines) (firstUnopposed l file) 0) .1 (
-          p .new-file,
-          place-none (firstUnnamed l file) unnamed-most .1 (p .named),
-          place-none (firstUnopposed l file) unopposed-most .1 (p .opposed),
-          p .unstored,
-          le-ltb places (length l + 1 + length (file .bills)) (p .room),
-        ),
-  )
-
--- ---- Book
-module _ (s : Settings) (file : List ℕ) (run : List Entry) (used : ℕ) where
-  tests : List (Option Outcome)
-  tests = testRefusals (s .retailer) (s .distributors) (linesOf file)
-
-  ledger : List (Option Outcome)
-  ledger = ledgerRefusals (length run) (take used run) (billFile (linesOf file))
-
-  tests-and-ledger : length (linesOf file) ≤ 4096 → Dec (0 < length (linesOf file)) → firstRefusal (tests ++ ledger) .number ≡ 0 → NoneOf tests × NoneOf ledger
-  unfolding tests ledger
-  tests-and-ledger few (yes h) e =
-      none-both (testRefusals (s .retailer) (s .distributors) (linesOf file)) (ledgerRefusals (length run) (take used run) (billFile (linesOf file)))
-      (tests-refused (linesOf file) h few (s .retailer) (s .distributors)) (ledger-numbered (length run) (take used run) (billFile (linesOf file))) e
-  tests-and-ledger few (no h) e =
-      absurd (omega (arith, ap (λ (o : Outcome). o .number) (no-lines (s .retailer) (s .distributors) (linesOf file) (ledgerRefusals (length run) (take used run) (billFile (linesOf file))) (omega (arith, h))), e))
-
-  pub accepted-none : (isBooked s file run used ≡ true) ↔ NoneOf (bookRefusals s file run used)
-  unfolding bookRefusal bookRefusals firstRefusal tests ledger
-  accepted-none = (λ e. go (settingsFit (s .retailer) (s .distributors)) (isSound run used) (isTooLarge file) refl (eqb-true (bookRefusal s file run used .number) 0 e), to)
+  ledger-passes = (from, to)
     where
-      go : (fit sound large : Bool) → isTooLarge file ≡ large → firstRefusal (house 104 (not fit) ∷ house 105 (not sound) ∷ house 103 large ∷ (tests ++ ledger)) .number ≡ 0
-          → NoneOf (house 104 (not fit) ∷ house 105 (not sound) ∷ house 103 large ∷ (tests ++ ledger))
-      go false sound large q e = absurd (omega arith)
-      go true false large q e = absurd (omega arith)
-      go true true true q e = absurd (omega arith)
-      go true true false q e =
-          let n = tests-and-ledger (few-lines file q) (decLt 0 (length (linesOf file))) e in
-          append-none tests ledger (n .0) (n .1)
-
-      to : NoneOf (bookRefusals s file run used) → isBooked s file run used ≡ true
-      to h = eq-eqb (bookRefusal s file run used .number) 0 (ap (λ (o : Outcome). o .number) (none-passes (bookRefusals s file run used) h))
-
-  -- the same in plain terms
-  pub accepted-exactly : (isBooked s file run used ≡ true) ↔ Acceptable s file run used
-  unfolding bookRefusals tests ledger
-  accepted-exactly = Iff·trans accepted-none (from (settingsFit (s .retailer) (s .distributors)) (isSound run used) (isTooLarge file) refl refl refl, to)
-    where
-      from : (fit sound large : Bool) → settingsFit (s .retailer) (s .distributors) ≡ fit → isSound run used ≡ sound → isTooLarge file ≡ large
-          → NoneOf (house 104 (not fit) ∷ house 105 (not sound) ∷ house 103 large ∷ (tests ++ ledger)) → Acceptable s file run used
-      from false sound large p q r h = absurd h
-      from true false large p q r h = absurd h
-      from true true true p q r h = absurd h
-      from true true false p q r h =
-          let n = none-append tests ledger h in
+      from : AllPass (ledgerRefusals places l file) → LedgerPasses places l file
+      from h =
+          let at : (n : ℕ) → failsAt n (ledgerRefusals places l file) ≡ false = λ n. passed-at n (ledgerRefusals places l file) h in
           record {
-            settings = p;
-            sound = q;
-            small = r;
-            passing = tests-none (s .retailer) (s .distributors) (linesOf file) .0 (n .0);
-            ledger = ledger-none (length run) (take used run) (billFile (linesOf file)) .0 (n .1);
+            new-file = at 8;
+            named = place-none (firstUnnamed l file) unnamed-most .0 (at 39);
+            opposed = place-none (firstUnopposed l file) unopposed-most .0 (at 40);
+            unstored = at 102;
+            room = ltb-false places (length l + 1 + length (file .bills)) (at 101);
           }
 
-      to : Acceptable s file run used → NoneOf (bookRefusals s file run used)
-      to a =
-          rw (a .settings, a .sound, a .small)
-          (append-none tests ledger (tests-none (s .retailer) (s .distributors) (linesOf file) .1 (a .passing)) (ledger-none (length run) (take used run) (billFile (linesOf file)) .1 (a .ledger)))
+      to : LedgerPasses places l file → AllPass (ledgerRefusals places l file)
+      to p =
+          let named = place-none (firstUnnamed l file) unnamed-most .1 (p .named) in
+          let opposed = place-none (firstUnopposed l file) unopposed-most .1 (p .opposed) in
+          let room = le-ltb places (length l + 1 + length (file .bills)) (p .room) in
+          (p .new-file, (named, (opposed, (p .unstored, (room, tt)))))
+
+-- ════ Book
+
+-- what the refusals ask, 39 and 40 as searches
+pub record Unrefused (i : Input) : Type 0 where
+  -- 104
+  pub settings : settingsFit (i .settings .retailer) (i .settings .distributors) ≡ true
+  -- 105
+  pub sound : isSound (i .run) (i .used) ≡ true
+  -- 103
+  pub small : isTooLarge (i .file) ≡ false
+  -- 2 to 38
+  pub passing : Passing (i .settings .retailer) (i .settings .distributors) (linesOf (i .file))
+  -- 8, 39, 40, 102, 101
+  pub ledger : LedgerPasses (length (i .run)) (ledgerOf i) (fileOf i)
+
+module _ (i : Input) where
+  abbrev lines : List (List ℕ)
+  lines = linesOf (i .file)
+
+  abbrev toTwelve : List (Option Outcome)
+  toTwelve = testsTo12 (i .settings .retailer) (i .settings .distributors) lines
+
+  abbrev fromFourteen : List (Option Outcome)
+  fromFourteen = testsFrom14 lines
+
+  abbrev ledger : List Refusal
+  ledger = ledgerRefusals (length (i .run)) (ledgerOf i) (fileOf i)
+
+  abbrev Passes : Type 0
+  Passes = Passing (i .settings .retailer) (i .settings .distributors) lines
+
+  pub book-never : (n : ℕ) → T (not (isTest n)) → T (never n (openingRefusals i)) → T (never n (ledgerRefusals (length (i .run)) (ledgerOf i) (fileOf i)))
+      → AllOf (Unlike n) (bookRefusals i)
+  unfolding bookRefusals
+  book-never n t h k =
+      all-append (Unlike n) _ _ (never-number n (openingRefusals i) h)
+      (all-append (Unlike n) _ _ (to-12-all (Unlike n) lines each (i .settings .retailer) (i .settings .distributors))
+      (all-append (Unlike n) _ _ (from-14-all (Unlike n) lines each)
+      (never-number n ledger k)))
+    where
+      refuted : (b : Bool) → T (not b) → T b → ⊥
+      refuted true t u = t
+      refuted false t u = u
+
+      each : (number line : ℕ) → T (isTest number) → (0 < length lines → (1 ≤ line) × (line ≤ length lines)) → Unlike n (outcome number line)
+      each number line u w e = refuted (isTest n) t (subst (λ (m : ℕ). T (isTest m)) e u)
+
+  numbered : AllOf (Unlike 0) (bookRefusals i)
+  unfolding openingRefusals ledgerRefusals
+  numbered = book-never 0 tt tt tt
+
+  accepted-none : (isBooked i ≡ true) ↔ NoneOf (bookRefusals i)
+  unfolding bookRefusal
+  accepted-none = (
+    λ e. first-none (bookRefusals i) numbered (eqb-true (bookRefusal i .number) 0 e),
+    λ h. eq-eqb (bookRefusal i .number) 0 (ap (λ (o : Outcome). o .number) (none-passes (bookRefusals i) h)),
+  )
+
+  tests-pass : NoneOf (toTwelve ++ fromFourteen) ↔ Passes
+  tests-pass =
+      subst (λ (rs : List (Option Outcome)). NoneOf rs ↔ Passes) (tests-parts (i .settings .retailer) (i .settings .distributors) lines)
+      (tests-none (i .settings .retailer) (i .settings .distributors) lines)
+
+  -- the parts of the list
+  parts : NoneOf (bookRefusals i) ↔ (AllPass (openingRefusals i) × Passes × AllPass ledger)
+  unfolding bookRefusals
+  parts = (
+    λ h.
+        let a = none-append (outcomes (openingRefusals i)) _ h in
+        let b = none-append toTwelve _ (a .1) in
+        let c = none-append fromFourteen _ (b .1) in
+        (none-refuses (openingRefusals i) .0 (a .0), tests-pass .0 (append-none toTwelve fromFourteen (b .0) (c .0)), none-refuses ledger .0 (c .1)),
+    λ (a, p, c).
+        let t = none-append toTwelve fromFourteen (tests-pass .1 p) in
+        append-none (outcomes (openingRefusals i)) _ (none-refuses (openingRefusals i) .1 a)
+        (append-none toTwelve _ (t .0)
+        (append-none fromFourteen _ (t .1)
+        (none-refuses ledger .1 c))),
+  )
+
+  pub accepted-unrefused : (isBooked i ≡ true) ↔ Unrefused i
+  unfolding openingRefusals
+  accepted-unrefused = Iff·trans accepted-none (Iff·trans parts (from, to))
+    where
+      from : AllPass (openingRefusals i) × Passes × AllPass ledger → Unrefused i
+      from (a, p, c) =
+          let at : (n : ℕ) → failsAt n (openingRefusals i) ≡ false = λ n. passed-at n (openingRefusals i) a in
+          record {
+            settings = not-false (settingsFit (i .settings .retailer) (i .settings .distributors)) (at 104);
+            sound = not-false (isSound (i .run) (i .used)) (at 105);
+            small = at 103;
+            passing = p;
+            ledger = ledger-passes (length (i .run)) (ledgerOf i) (fileOf i) .0 c;
+          }
+
+      to : Unrefused i → AllPass (openingRefusals i) × Passes × AllPass ledger
+      to u = (
+        (ap not (u .settings), (ap not (u .sound), (u .small, tt))),
+        u .passing,
+        ledger-passes (length (i .run)) (ledgerOf i) (fileOf i) .1 (u .ledger),
+      )

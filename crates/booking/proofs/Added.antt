@@ -5,19 +5,19 @@
 --     held-count            and those held are originals
 -- Assumes nothing.
 use mathlib.Core.Path.{_≡_, refl, sym, ap, _∙_}
-use mathlib.Core.Bool.{Bool, true, false, not, _&&_, _||_, cond}
+use mathlib.Core.Bool.{Bool, false, not, _&&_}
 use mathlib.Core.List.{List, [], _∷_, _++_, map, append-assoc, append-nil}
 use Prim.Native.Nat.{ℕ, zero, suc, _+_}
 use native.Mathlib.Omega.{arith}
-use lib.Dec.{T, eqb}
+use lib.Dec.{T}
 use lib.ListN.{length, drop, length-append, length-map}
-use Rattle.lists.specs.Selections.{filter, all, count}
-use Rattle.lists.proofs.Selections.{is-true, both, cases, count-append, all-append, is-false, length-split}
+use Rattle.lists.specs.Selections.{all, count}
+use Rattle.lists.proofs.Selections.{both, cases, count-append, all-append, is-false, length-split}
 use Rattle.validation.specs.Accepted.{Bill, BillFile}
 use Rattle.entries.specs.declared.Entry.{Entry}
-use Rattle.entries.specs.Entries.{isHeld, inState}
+use Rattle.entries.specs.Entries.{isHeld}
 use Rattle.soundness.specs.Sound.{sameSubject}
-use Rattle.booking.specs.Booking.{cancels, originals, entry, fileEntry, refersTo, isLiveOrHeld, namesEntry, cancelNamed, stateOf, bookCancels, bookOriginals, booked}
+use Rattle.booking.specs.Booking.{cancels, originals, entry, fileEntry, refersTo, isLiveOrHeld, namesEntry, cancelNamed, original, bookCancels, bookOriginals, booked}
 
 -- ---- what the file adds
 
@@ -32,7 +32,7 @@ cancelEntries cs = map (λ (c : Bill). entry c 4) cs
 -- the originals, each in its state at its turn
 abbrev pub originalEntries : List Entry → List Bill → List Entry
 originalEntries l [] = []
-originalEntries l (b ∷ bs) = entry b (stateOf l b) ∷ originalEntries (l ++ entry b (stateOf l b) ∷ []) bs
+originalEntries l (b ∷ bs) = original l b ∷ originalEntries (l ++ original l b ∷ []) bs
 
 abbrev pub ahead : BillFile → List Entry
 ahead file = fileEntry file ∷ cancelEntries (cancels file)
@@ -69,8 +69,8 @@ cancels-parts xs ys (c ∷ cs) t =
 originals-parts : (l : List Entry) (bs : List Bill) → bookOriginals l bs ≡ l ++ originalEntries l bs
 originals-parts l [] = sym (append-nil l)
 originals-parts l (b ∷ bs) =
-    originals-parts (l ++ entry b (stateOf l b) ∷ []) bs
-    ∙ append-assoc l (entry b (stateOf l b) ∷ []) (originalEntries (l ++ entry b (stateOf l b) ∷ []) bs)
+    originals-parts (l ++ original l b ∷ []) bs
+    ∙ append-assoc l (original l b ∷ []) (originalEntries (l ++ original l b ∷ []) bs)
 
 pub booked-parts : (l : List Entry) (file : BillFile) → booked l file ≡ cancelAll l (cancels file) ++ added l file
 booked-parts l file =
@@ -90,7 +90,7 @@ length-cancel-all l (c ∷ cs) = length-cancel-all (cancelNamed c l) cs ∙ leng
 
 length-originals : (l : List Entry) (bs : List Bill) → length (originalEntries l bs) ≡ length bs
 length-originals l [] = refl
-length-originals l (b ∷ bs) = ap suc (length-originals (l ++ entry b (stateOf l b) ∷ []) bs)
+length-originals l (b ∷ bs) = ap suc (length-originals (l ++ original l b ∷ []) bs)
 
 drop-first : (xs ys : List Entry) (n : ℕ) → length xs ≡ n → drop n (xs ++ ys) ≡ ys
 drop-first [] ys zero e = refl

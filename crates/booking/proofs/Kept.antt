@@ -1,33 +1,34 @@
 -- An accepted file keeps a ledger sound: `kept`. Each step of booking does, and leaves what the records after it need:
 -- their keys are new to the ledger, and the cancels among them still name what they name.
 -- Assumes nothing.
-use mathlib.Core.Path.{_≡_, refl, sym, _∙_, subst, subst⁻¹}
+use mathlib.Core.Path.{_≡_, refl, sym, ap, _∙_, subst, subst⁻¹}
 use mathlib.Core.Logic.{_⊎_, inl, inr, ⊎-elim}
-use mathlib.Core.Bool.{Bool, true, false, not, _&&_, true≢false}
+use mathlib.Core.Bool.{Bool, true, false, not, _&&_, cond, true≢false}
 use mathlib.Core.List.{List, [], _∷_, _++_, map}
 use Prim.Native.Nat.{ℕ, _≤_, _<_}
 use native.Mathlib.Omega.{arith}
 use borrow.Author.Tests.{eq-eqb}
-use lib.Dec.{T, eqb}
+use lib.Dec.{T, eqb, ltb}
 use lib.ListN.{length, set}
 use Rattle.lists.specs.Selections.{any, all}
-use Rattle.lists.proofs.Selections.{cases, both, is-true, and-left, and-right, and-both, all-of-filter}
+use Rattle.lists.proofs.Selections.{cases, both, is-true, and-both, all-of-filter}
 use Rattle.calendar.specs.Periods.{sharesDay}
 use Rattle.calendar.proofs.Periods.{shares-day}
 use Rattle.validation.specs.Accepted.{Bill, BillFile}
 use Rattle.entries.specs.declared.Entry.{Entry}
 use Rattle.entries.specs.Entries.{blank, entryOf, isLive, isPeriod, period, inState}
-use Rattle.soundness.specs.Sound.{entryFits, opposite, isLivePeriod}
+use Rattle.soundness.specs.Sound.{entryFits, isLivePeriod}
 use Rattle.booking.specs.Kept.{LiveOn, Paired, EntriesSound}
-use Rattle.booking.specs.Booking.{cancels, originals, entry, fileEntry, namesEntry, cancelNamed, overlaps, stateOf, bookCancels, bookOriginals, booked}
-use Rattle.booking.specs.Passes.{Key, keyOf, entryKey, keys, billFits, AllNamed, Passes}
-use Rattle.booking.proofs.KeptPlaces.{some-place, place-some}
+use Rattle.booking.specs.Booking.{cancels, originals, entry, fileEntry, namedEntry, cancelNamed, overlaps, firstOverlap, stateOf, original, bookCancels, bookOriginals, booked}
+use Rattle.booking.specs.Passes.{Key, keyOf, entryKey, keys, billFits, isOpposed, AllNamed, Passes}
+use Rattle.booking.proofs.KeptPlaces.{place-some}
 use Rattle.soundness.proofs.Meaning.{entry-means}
-use Rattle.booking.proofs.KeptFits.{names-standing, names-key, names-pairs}
-use Rattle.booking.proofs.KeptEntries.{Separate, New, separate, one-place, separate-appended, separate-cancelled}
+use Rattle.booking.proofs.Names.{names-standing, names-pairs}
+use Rattle.booking.proofs.KeptEntries.{Separate, New, separate, separate-appended, separate-cancelled}
 use Rattle.booking.proofs.KeptPairs.{PairedOff, paired-appended, paired-cancelled}
 use Rattle.booking.proofs.KeptKeys.{Fresh, fresh-keys, fresh-unlike, fresh-appended, fresh-cancelled, fresh-parted}
-use Rattle.booking.proofs.KeptNames.{NamedAt, named-at, some-named, all-named-append}
+use Rattle.booking.proofs.KeptNames.{NamedAt, named-at, all-named-append}
+use Rattle.booking.proofs.Overlaps.{overlap-found}
 
 together : (es : List Entry) → Separate es → PairedOff es → EntriesSound es
 together es s p =
@@ -63,21 +64,13 @@ file-kept l file ks s fits fresh = appended l (fileEntry file) s new (omega (ari
 
 -- ---- a cancel
 module _ (l : List Entry) (c : Bill) (ks : List Key) (s : EntriesSound l) (fits : entryFits (entry c 4) ≡ true) (fresh : Fresh l (keyOf c ∷ ks))
-    (named : T (any (λ e. namesEntry c e && opposite (entry c 4) e) l)) where
+    (named : isOpposed c (namedEntry c l) ≡ true) where
   at : NamedAt c l
-  at = named-at c l (some-named c l named)
+  at = named-at c l named
 
-  -- the entry that it cancels is the one with the opposite amounts: no other has its key
+  -- the entry that it cancels has the opposite amounts
   pair : Paired (entry c 4) (inState (entryOf l (at .place)) 3)
-  pair =
-      let test : Entry → Bool = λ e. namesEntry c e && opposite (entry c 4) e in
-      let (q, h, t) = some-place blank test l (is-true (any test l) named) in
-      let names = and-left (namesEntry c (entryOf l q)) (opposite (entry c 4) (entryOf l q)) t in
-      let (sender, id) = names-key c (entryOf l q) names in
-      let (sender′, id′) = names-key c (entryOf l (at .place)) (at .names) in
-      let same : q ≡ at .place = one-place l (separate l s) q (at .place) h (at .inside) (sym sender ∙ sender′) (sym id ∙ id′) in
-      subst (λ (i : ℕ). Paired (entry c 4) (inState (entryOf l i) 3)) same
-      (names-pairs c (entryOf l q) names (and-right (namesEntry c (entryOf l q)) (opposite (entry c 4) (entryOf l q)) t))
+  pair = names-pairs c (entryOf l (at .place)) (at .names) (at .opposes)
 
   cancel-kept : EntriesSound (cancelNamed c l ++ entry c 4 ∷ [])
   cancel-kept =
@@ -97,23 +90,25 @@ module _ (l : List Entry) (b : Bill) where
   -- at its turn it is held, or it is live and overlaps no live period
   at-turn : (stateOf l b ≡ 2) ⊎ ((stateOf l b ≡ 1) × (b .kind ≡ 2 → any (overlaps b) l ≡ false))
   unfolding stateOf
-  at-turn = cases (isPeriod (entry b 1) && any (overlaps b) l)
-      (λ e. inl (rw e))
-      (λ e. inr (rw e, λ k. subst (λ (t : Bool). (t && any (overlaps b) l) ≡ false) (eq-eqb (b .kind) 2 k) e))
+  at-turn =
+      let found = overlap-found l b in
+      cases (isPeriod (entry b 1) && ltb (firstOverlap l b) (length l))
+      (λ e. inl (ap (λ (t : Bool). cond t 2 1) e))
+      (λ e. inr (ap (λ (t : Bool). cond t 2 1) e, λ k. sym found ∙ subst (λ (t : Bool). (t && ltb (firstOverlap l b) (length l)) ≡ false) (eq-eqb (b .kind) 2 k) e))
 
-  state-low : stateOf l b ≤ 2
+  state-low : original l b .state ≤ 2
   state-low = ⊎-elim (λ held. omega arith) (λ live. omega arith) at-turn
 
-  original-fits : T (billFits b) → entryFits (entry b (stateOf l b)) ≡ true
+  original-fits : T (billFits b) → entryFits (original l b) ≡ true
   original-fits t =
       let (two, four) = both (entryFits (entry b 1) && entryFits (entry b 2)) (entryFits (entry b 4)) t in
       let (live, held) = both (entryFits (entry b 1)) (entryFits (entry b 2)) two in
       ⊎-elim (λ e. in-state 2 e held) (λ e. in-state 1 (e .0) live) at-turn
     where
-      in-state : (n : ℕ) → stateOf l b ≡ n → T (entryFits (entry b n)) → entryFits (entry b (stateOf l b)) ≡ true
+      in-state : (n : ℕ) → stateOf l b ≡ n → T (entryFits (entry b n)) → entryFits (original l b) ≡ true
       in-state n e f = subst⁻¹ (λ (m : ℕ). entryFits (entry b m) ≡ true) e (is-true (entryFits (entry b n)) f)
 
-  live-overlaps : (site day : ℕ) (e : Entry) → LiveOn e site day → LiveOn (entry b (stateOf l b)) site day → overlaps b e ≡ true
+  live-overlaps : (site day : ℕ) (e : Entry) → LiveOn e site day → LiveOn (original l b) site day → overlaps b e ≡ true
   unfolding overlaps
   live-overlaps site day e x y =
       and-both (isLivePeriod e && eqb (e .site) (b .site)) (sharesDay (period e) (period (entry b 1)))
@@ -122,16 +117,16 @@ module _ (l : List Entry) (b : Bill) where
       (eq-eqb (e .site) (b .site) (x .of-site ∙ sym (y .of-site))))
       (shares-day (period e) (period (entry b 1)) .1 (day, (x .from, x .to), (y .from, y .to)))
 
-  clear-of : (i site day : ℕ) → i < length l → LiveOn (entryOf l i) site day → LiveOn (entry b (stateOf l b)) site day → ⊥
+  clear-of : (i site day : ℕ) → i < length l → LiveOn (entryOf l i) site day → LiveOn (original l b) site day → ⊥
   clear-of i site day h x y =
       ⊎-elim (λ held. omega (arith, y .live))
       (λ live. true≢false (sym (place-some blank (overlaps b) l i h (live-overlaps site day (entryOf l i) x y)) ∙ live .1 (y .period)))
       at-turn
 
-  original-kept : (ks : List Key) → EntriesSound l → T (billFits b) → Fresh l (keyOf b ∷ ks) → EntriesSound (l ++ entry b (stateOf l b) ∷ [])
+  original-kept : (ks : List Key) → EntriesSound l → T (billFits b) → Fresh l (keyOf b ∷ ks) → EntriesSound (l ++ original l b ∷ [])
   original-kept ks s fits fresh =
-      appended l (entry b (stateOf l b)) s
-      (record { fits = entry-means (entry b (stateOf l b)) .0 (original-fits fits); unlike = fresh-unlike l (keyOf b) ks fresh; clear = clear-of })
+      appended l (original l b) s
+      (record { fits = entry-means (original l b) .0 (original-fits fits); unlike = fresh-unlike l (keyOf b) ks fresh; clear = clear-of })
       state-low
 
 -- ---- the file's cancels, and then its originals
@@ -155,8 +150,8 @@ originals-kept : (l : List Entry) (bs : List Bill) → EntriesSound l → T (all
 originals-kept l [] s t f = s
 originals-kept l (b ∷ bs) s t f =
     let (fits, rest) = both (billFits b) (all billFits bs) t in
-    originals-kept (l ++ entry b (stateOf l b) ∷ []) bs (original-kept l b (map keyOf bs) s fits f) rest
-    (fresh-appended l (entry b (stateOf l b)) (map keyOf bs) f)
+    originals-kept (l ++ original l b ∷ []) bs (original-kept l b (map keyOf bs) s fits f) rest
+    (fresh-appended l (original l b) (map keyOf bs) f)
 
 -- ---- from any sound ledger
 pub kept : (places : ℕ) (l : List Entry) (file : BillFile) → EntriesSound l → Passes places l file → EntriesSound (booked l file)

@@ -1,10 +1,10 @@
 -- The places of a list: of one that is one element longer, and of one with another element at a place; and what a test over the list says of them.
 --     longer-each, changed-each       what holds at each place
---     some-place, place-some          a test that passes at some place
+--     place-some                      a test that passes at some place
 --     no-place                        a test that passes nowhere
 -- Assumes nothing.
 use mathlib.Core.Path.{_≡_, sym, subst}
-use mathlib.Core.Bool.{Bool, true, _||_, false≢true}
+use mathlib.Core.Bool.{Bool, true}
 use mathlib.Core.List.{List, [], _∷_, _++_}
 use Prim.Native.Nat.{ℕ, zero, suc, _<_}
 use native.Mathlib.Omega.{arith}
@@ -36,12 +36,6 @@ module _ {A : Type 0} (d : A) where
       go (no e) = subst (P i) (sym (getD-set-other l p i x d e)) (old i (omega (arith, length-set l p x)) e)
 
   -- a test passes at some place
-  pub some-place : (t : A → Bool) (l : List A) → any t l ≡ true → (i : ℕ) × (i < length l) × (t (getD l i d) ≡ true)
-  some-place t [] e = absurd (false≢true e)
-  some-place t (x ∷ l) e = cases (t x)
-      (λ k. (0, omega arith, k))
-      (λ k. let r = some-place t l (subst (λ (b : Bool). (b || any t l) ≡ true) k e) in (suc (r .0), omega arith, r .2))
-
   pub place-some : (t : A → Bool) (l : List A) (i : ℕ) → i < length l → t (getD l i d) ≡ true → any t l ≡ true
   place-some t [] i h e = absurd (omega arith)
   place-some t (x ∷ l) zero h e = rw e

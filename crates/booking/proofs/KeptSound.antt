@@ -4,8 +4,8 @@
 --     never-unsound     from an empty ledger of at most 8,192 places no call of a list answers 105, and the ledger is sound after it
 -- Assumes nothing.
 use mathlib.Core.Path.{_≡_, refl, sym, ap, _∙_}
-use mathlib.Core.Logic.{_↔_, ⊎-elim}
-use mathlib.Core.Bool.{Bool, true, false, not, _&&_, cond}
+use mathlib.Core.Logic.{⊎-elim}
+use mathlib.Core.Bool.{Bool, true, false, _&&_, cond}
 use mathlib.Core.List.{List, [], _∷_, _++_, List·Memᴰ, List·Memᴰ·not-nil, List·Memᴰ·cases-cons}
 use Prim.Native.Nat.{ℕ, _≤_}
 use native.Mathlib.Omega.{arith}
@@ -14,15 +14,11 @@ use lib.Dec.{leb}
 use lib.ListN.{length, take, drop, length-append, length-take, length-drop}
 use lib.Seq.{take-append-seam}
 use Rattle.lists.proofs.Selections.{and-left, and-right, and-both}
-use Rattle.text.specs.Text.{linesOf}
-use Rattle.validation.specs.Accepted.{billFile}
 use Rattle.entries.specs.declared.Entry.{Entry}
 use Rattle.soundness.specs.Sound.{sizesFit, entriesSound, isSound}
 use Rattle.soundness.proofs.Meaning.{empty-sound}
 use Rattle.booking.specs.Kept.{EntriesSound}
-use Rattle.booking.specs.declared.Answer.the-variants.{Refused}
-use Rattle.booking.specs.Booking.{Settings, booked, isBooked, answerOf, ledgerAfter, usedAfter, runAfter}
-use Rattle.booking.specs.Passes.{Passes}
+use Rattle.booking.specs.Booking.{Input, fileOf, ledgerOf, isBooked, ledgerAfter, Result, resultOf, usedAfter, runAfter}
 use Rattle.booking.specs.Guarantee.{Call, Calls}
 use Rattle.booking.proofs.Kept.{kept}
 use Rattle.booking.proofs.Added.{length-booked}
@@ -63,35 +59,37 @@ front-sized l run fits few s =
 few-used : (run : List Entry) (used : ℕ) → length run ≤ 8192 → length (take used run) ≤ 8192
 few-used run used few = let size = length-take used run in omega arith
 
-pub stays-sound : (s : Settings) (file : List ℕ) (run : List Entry) (used : ℕ) → isSound run used ≡ true → isSound (runAfter s file run used) (usedAfter s file run used) ≡ true
+pub used-sound : (run : List Entry) (used : ℕ) → isSound run used ≡ true → EntriesSound (take used run)
+used-sound run used t = let z = sizes run used t in entries-sound-means (take used run) (few-used run used (z .few)) .0 (z .entries)
+
+pub stays-sound : (i : Input) → isSound (i .run) (i .used) ≡ true → isSound (runAfter i) (usedAfter i) ≡ true
 unfolding runAfter usedAfter
-stays-sound s file run used t = go (isBooked s file run used) refl
+stays-sound i t = go (isBooked i) refl
   where
-    go : (b : Bool) → isBooked s file run used ≡ b
-        → isSound (cond b (ledgerAfter file run used ++ drop (length (ledgerAfter file run used)) run) run) (cond b (length (ledgerAfter file run used)) used) ≡ true
+    go : (b : Bool) → isBooked i ≡ b → isSound (cond b (ledgerAfter i ++ drop (length (ledgerAfter i)) (i .run)) (i .run)) (cond b (length (ledgerAfter i)) (i .used)) ≡ true
     go true e =
-        let p = accepted-passes s file run used e in
-        let bill = billFile (linesOf file) in
-        let l = take used run in
-        let z = sizes run used t in
-        let sound = kept (length run) l bill (entries-sound-means l (few-used run used (z .few)) .0 (z .entries)) p in
-        let size = length-booked l bill in
-        sized (booked l bill ++ drop (length (booked l bill)) run) (length (booked l bill))
-        (front-sized (booked l bill) run (omega (arith, p .room)) (z .few) (entries-sound-means (booked l bill) (omega (arith, p .room, z .few)) .1 sound))
+        let p = accepted-passes i e in
+        let l = ledgerOf i in
+        let after = ledgerAfter i in
+        let z = sizes (i .run) (i .used) t in
+        let sound = kept (length (i .run)) l (fileOf i) (used-sound (i .run) (i .used) t) p in
+        let size = length-booked l (fileOf i) in
+        sized (after ++ drop (length after) (i .run)) (length after)
+        (front-sized after (i .run) (omega (arith, p .room)) (z .few) (entries-sound-means after (omega (arith, p .room, z .few)) .1 sound))
     go false e = t
 
 pub calls-sound : (run : List Entry) (used : ℕ) (calls : List Call) (run′ : List Entry) (used′ : ℕ) → isSound run used ≡ true → Calls run used calls run′ used′
-    → ((c : Call) → List·Memᴰ c calls → (line : ℕ) → c .answer ≡ Refused 105 line → ⊥) × (isSound run′ used′ ≡ true)
-calls-sound run used [] run′ used′ t r = (λ c m line e. List·Memᴰ·not-nil m, sym (λ i. isSound (r .0 i) (r .1 i)) ∙ t)
-calls-sound run used (call ∷ calls) run′ used′ t r =
-    let b = r .2 in
-    let next : isSound (r .0) (r .1) ≡ true = (λ i. isSound (b .leaves-run i) (b .leaves-used i)) ∙ stays-sound (call .settings) (call .file) run used t in
-    let rest = calls-sound (r .0) (r .1) calls run′ used′ next (r .3) in
-    (λ c m line e. ⊎-elim (λ same. here c same line e (b .answers)) (λ later. rest .0 c later line e) (List·Memᴰ·cases-cons m), rest .1)
-  where
-    here : (c : Call) → c ≡ call → (line : ℕ) → c .answer ≡ Refused 105 line → call .answer ≡ answerOf (call .settings) (call .file) run used → ⊥
-    here c same line e a = never-105 (call .settings) (call .file) run used t line (sym a ∙ ap (λ (d : Call). d .answer) (sym same) ∙ e)
+    → ((c : Call) → List·Memᴰ c calls → resultOf (c .answer) .number ≡ 105 → ⊥) × (isSound run′ used′ ≡ true)
+calls-sound run used [] run′ used′ t r = (λ c m e. List·Memᴰ·not-nil m, sym (λ i. isSound (r .0 i) (r .1 i)) ∙ t)
+calls-sound run used (call ∷ calls) run′ used′ t (after, count, step, rest) =
+    let b = step .met in
+    let lent : isSound (call .input .run) (call .input .used) ≡ true = (λ i. isSound (step .lent-run i) (step .lent-used i)) ∙ t in
+    let next : isSound after count ≡ true = (λ i. isSound (b .leaves-run i) (b .leaves-used i)) ∙ stays-sound (call .input) lent in
+    let later = calls-sound after count calls run′ used′ next rest in
+    let here : (c : Call) → c ≡ call → resultOf (c .answer) .number ≡ 105 → ⊥ =
+    λ c same e. never-105 (call .input) lent (ap (λ (r : Result). r .number) (sym (b .answers)) ∙ ap (λ (d : Call). resultOf (d .answer) .number) (sym same) ∙ e) in
+    (λ c m e. ⊎-elim (λ same. here c same e) (λ in-rest. later .0 c in-rest e) (List·Memᴰ·cases-cons m), later .1)
 
 pub never-unsound : (run run′ : List Entry) (used′ : ℕ) (calls : List Call) → length run ≤ 8192 → Calls run 0 calls run′ used′
-    → ((c : Call) → List·Memᴰ c calls → (line : ℕ) → c .answer ≡ Refused 105 line → ⊥) × (isSound run′ used′ ≡ true)
+    → ((c : Call) → List·Memᴰ c calls → resultOf (c .answer) .number ≡ 105 → ⊥) × (isSound run′ used′ ≡ true)
 never-unsound run run′ used′ calls few = calls-sound run 0 calls run′ used′ (empty-sound run few)

@@ -1,3 +1,4 @@
+pub mod Acceptance
 pub mod AcceptedFile
 pub mod Accepting
 pub mod Added
@@ -6,17 +7,19 @@ pub mod Guarantee
 pub mod Kept
 pub mod KeptAnswers
 pub mod KeptEntries
-pub mod KeptFits
 pub mod KeptKeys
 pub mod KeptMeaning
 pub mod KeptNames
 pub mod KeptPairs
 pub mod KeptPlaces
 pub mod KeptSound
+pub mod Lent
 pub mod Lines
 pub mod Meaning
 pub mod Named
+pub mod Names
 pub mod Opposites
+pub mod Overlaps
 pub mod Run
 pub mod Statuses
 pub mod Steps

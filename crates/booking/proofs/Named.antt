@@ -1,51 +1,31 @@
 -- What the tests make of the booking: each cancel names one record, none is named twice, and what the charges come to.
 -- Assumes nothing.
 use mathlib.Core.Path.{_≡_, refl, sym, ap, _∙_, subst}
-use mathlib.Core.Bool.{Bool, true, false, not, _&&_, _||_, cond, and-false}
+use mathlib.Core.Bool.{Bool, true, false, not, _&&_, _||_, cond, and-false, false≢true}
+use mathlib.Core.Option.{Option, none, some}
 use mathlib.Core.List.{List, [], _∷_, _++_, append-nil, List·Memᴰ, List·Memᴰ·not-nil, List·Memᴰ·cases-cons}
 use mathlib.Core.Logic.{⊎-elim}
 use Prim.Native.Nat.{_+_, _≤_}
-use native.Mathlib.Nat.{le-trans, le-of-eq}
+use native.Mathlib.Nat.{le-trans}
 use native.Mathlib.Omega.{arith}
 use lib.Dec.{T}
-use lib.IntN.{ℤ, pos, negℤ, _+ℤ_, +ℤ-idr, +ℤ-assoc, +ℤ-comm, +ℤ-negℤ-cancel}
+use lib.IntN.{ℤ, negℤ, _+ℤ_, +ℤ-idr, +ℤ-assoc, +ℤ-comm, +ℤ-negℤ-cancel}
 use Rattle.lists.specs.Selections.{filter, any, all, count, sum}
-use Rattle.lists.proofs.Selections.{and-left, and-right, and-both, is-true, both, is-false, neither, map-append, count-map, any-map, filter-append, any-append, count-append, count-mono, count-split, the-one, any-filter-none, any-of-filter, count-filter-le, sum-append, sum-split}
+use Rattle.lists.proofs.Selections.{and-left, and-right, and-both, is-true, both, is-false, neither, map-append, filter-append, any-append, count-append, count-mono, the-one, sum-append}
 use Rattle.validation.specs.Accepted.{Bill}
 use Rattle.booking.specs.Passes.{Key, sameKey, keyOf}
-use Rattle.booking.specs.Guarantee.{fits, names, Opposite, Status, live, held, cancelled, cancelling, isLiveStatus, isHeldStatus, Standing, standing, isHeldAtTurn, atTurn, onceNamed, afterCancel, turn, turns, liveOf, heldOf}
-use Rattle.booking.proofs.Turns.{turn-cancel, turn-original, bills, bills-turn, referenceKey, Once, key-same, fits-key, fits-once, has, once-left, once-turn}
-use Rattle.booking.proofs.Statuses.{chosen-after-cancel, names-fits}
+use Rattle.booking.specs.Guarantee.{fits, names, Opposite, Status, live, held, cancelled, cancelling, isLiveStatus, isHeldStatus, Standing, standing, isHeldAtTurn, atTurn, isUncancelled, turn, turns, liveOf, heldOf}
+use Rattle.booking.proofs.Turns.{turn-original, bills, bills-turn, referenceKey, Once, key-same, fits-key, fits-once, has, once-left, once-turn, namedStanding, Named, NoneNamed, named-or-none, chosen-with, chosen-left, chosen-after-cancel}
+use Rattle.booking.proofs.Statuses.{names-fits}
 use Rattle.booking.proofs.Opposites.{opposes, opposite-amounts}
 
 -- ════ the records that are live or held
-
-abbrev pub isUncancelled : Standing → Bool
-isUncancelled s = isLiveStatus (s .status) || isHeldStatus (s .status)
 
 abbrev pub uncancelled : List Standing → List Bill
 uncancelled bs = bills (filter isUncancelled bs)
 
 abbrev pub charges : List Bill → ℤ
 charges bs = sum (λ b. b .charge) bs
-
-pub uncancelled-drops : (c : Bill) (s : Standing) → isUncancelled (afterCancel c s) ≡ (isUncancelled s && not (fits c (s .bill)))
-uncancelled-drops c s = go (fits c (s .bill)) (s .status)
-  where
-    go : (x : Bool) (t : Status)
-        → isUncancelled (cond x (standing (s .bill) (onceNamed t)) (standing (s .bill) t)) ≡ ((isLiveStatus t || isHeldStatus t) && not x)
-    go true live = refl
-    go true held = refl
-    go true cancelled = refl
-    go true cancelling = refl
-    go false live = refl
-    go false held = refl
-    go false cancelled = refl
-    go false cancelling = refl
-
--- a cancel takes away those that it fits
-uncancelled-cancel : (bs : List Standing) (c : Bill) → c .cancel ≡ true → uncancelled (turn bs c) ≡ filter (λ b. not (fits c b)) (uncancelled bs)
-uncancelled-cancel bs c e = ap uncancelled (turn-cancel bs c e) ∙ chosen-after-cancel c isUncancelled (uncancelled-drops c) bs refl
 
 -- an original is live or held
 uncancelled-original : (bs : List Standing) (b : Bill) → b .cancel ≡ false → uncancelled (turn bs b) ≡ uncancelled bs ++ b ∷ []
@@ -59,41 +39,54 @@ uncancelled-original bs b e =
     go true = refl
     go false = refl
 
--- ════ what tests 39 and 40 give of a cancel at its turn: it fits one that is live or held, with the opposite amounts
+-- ════ what tests 39 and 40 give of a cancel at its turn: it names one that is live or held, with the opposite amounts
+
+abbrev pub isOpposing : Bill → Option Standing → Bool
+isOpposing c none = false
+isOpposing c (some s) = opposes c (s .bill)
 
 abbrev pub HasOpposite : List Standing → Bill → Type 0
-HasOpposite bs c = any (λ b. fits c b && opposes c b) (uncancelled bs) ≡ true
+HasOpposite bs c = isOpposing c (namedStanding c bs) ≡ true
 
 abbrev pub AllHaveOpposites : List Standing → List Bill → Type 0
 AllHaveOpposites bs [] = Unit {0}
 AllHaveOpposites bs (c ∷ cs) = HasOpposite bs c × AllHaveOpposites (turn bs c) cs
 
--- it is the only one that it fits
-the-opposite : (bs : List Standing) (c : Bill) → Once (bills bs) → HasOpposite bs c
-    → (b : Bill) × (filter (fits c) (uncancelled bs) ≡ b ∷ []) × (fits c b ≡ true) × (opposes c b ≡ true)
-the-opposite bs c o m =
-    the-one (fits c) (opposes c) (uncancelled bs) m
-    (le-trans (le-of-eq (count-map (fits c) (λ s. s .bill) (filter isUncancelled bs)))
-    (le-trans (count-filter-le (λ s. fits c (s .bill)) isUncancelled bs)
-    (le-trans (le-of-eq (sym (count-map (fits c) (λ s. s .bill) bs))) (fits-once c (bills bs) o))))
+-- the one that it names, which the live or held records lose
+record Opposed (bs : List Standing) (c : Bill) : Type 0 where
+  named : Named c bs
+  opposing : opposes c (named .at .bill) ≡ true
+
+the-opposite : (bs : List Standing) (c : Bill) → HasOpposite bs c → Opposed bs c
+the-opposite bs c m =
+    ⊎-elim (λ (n : Named c bs). record { named = n; opposing = sym (ap (isOpposing c) (n .named)) ∙ m })
+    (λ (n : NoneNamed c bs). absurd (false≢true (sym (ap (isOpposing c) (n .named)) ∙ m))) (named-or-none c bs)
+
+module _ (bs : List Standing) (c : Bill) (y : c .cancel ≡ true) (n : Named c bs) where
+  with-it : uncancelled bs ≡ uncancelled (n .before) ++ n .at .bill ∷ uncancelled (n .after)
+  with-it = chosen-with c isUncancelled (λ b. refl) bs n (n .uncancelled)
+
+  without-it : uncancelled (turn bs c) ≡ uncancelled (n .before) ++ uncancelled (n .after)
+  without-it = chosen-after-cancel c isUncancelled refl bs y ∙ chosen-left c isUncancelled (λ b. refl) bs n
 
 -- ════ the charges
 
-take-back : (q x : ℤ) → ((q +ℤ pos 0) +ℤ x) +ℤ negℤ q ≡ x
-take-back q x = rw (+ℤ-idr q, +ℤ-comm q x) (+ℤ-negℤ-cancel x q)
+take-back : (x q z : ℤ) → (x +ℤ (q +ℤ z)) +ℤ negℤ q ≡ x +ℤ z
+take-back x q z = ap (λ (w : ℤ). (x +ℤ w) +ℤ negℤ q) (+ℤ-comm q z) ∙ ap (λ (w : ℤ). w +ℤ negℤ q) (sym (+ℤ-assoc x z q)) ∙ +ℤ-negℤ-cancel (x +ℤ z) q
 
 -- a cancel takes the charge of the one that it names
-charges-cancel : (bs : List Standing) (c : Bill) → c .cancel ≡ true → Once (bills bs) → HasOpposite bs c
-    → charges (uncancelled (turn bs c)) ≡ charges (uncancelled bs) +ℤ c .charge
-charges-cancel bs c e o m =
-    let one = the-opposite bs c o m in
-    let q : ℤ = (one .0) .charge in
-    let rest : ℤ = charges (filter (λ b. not (fits c b)) (uncancelled bs)) in
-    ap charges (uncancelled-cancel bs c e)
-    ∙ sym (take-back q rest)
-    ∙ ap (λ (l : List Bill). (charges l +ℤ rest) +ℤ negℤ q) (sym (one .1))
-    ∙ ap (λ (z : ℤ). z +ℤ negℤ q) (sum-split (λ b. b .charge) (fits c) (uncancelled bs))
-    ∙ ap (λ (z : ℤ). charges (uncancelled bs) +ℤ z) (sym (opposite-amounts c (one .0) (one .3) .0))
+charges-cancel : (bs : List Standing) (c : Bill) → c .cancel ≡ true → HasOpposite bs c → charges (uncancelled (turn bs c)) ≡ charges (uncancelled bs) +ℤ c .charge
+charges-cancel bs c y m =
+    let o = the-opposite bs c m in
+    let n = o .named in
+    let b = n .at .bill in
+    let xs = uncancelled (n .before) in
+    let ys = uncancelled (n .after) in
+    ap charges (without-it bs c y n)
+    ∙ sum-append (λ b. b .charge) xs ys
+    ∙ sym (take-back (charges xs) (b .charge) (charges ys))
+    ∙ ap (λ (z : ℤ). z +ℤ negℤ (b .charge)) (sym (ap charges (with-it bs c y n) ∙ sum-append (λ b. b .charge) xs (b ∷ ys)))
+    ∙ ap (λ (z : ℤ). charges (uncancelled bs) +ℤ z) (sym (opposite-amounts c b (o .opposing) .0))
 
 charges-original : (bs : List Standing) (b : Bill) → b .cancel ≡ false → charges (uncancelled (turn bs b)) ≡ charges (uncancelled bs) +ℤ b .charge
 charges-original bs b e =
@@ -139,9 +132,18 @@ pub record PairOff (bs : List Standing) : Type 0 where
   -- an original is live or held, or there is one cancel that refers to it
   pub counted : (k : Key) → count (has k) (uncancelled bs) + count (isCancelOf k) (bills bs) ≡ count (isOriginalOf k) (bills bs)
 
-the-opposite-original : (bs : List Standing) (c b : Bill) → PairOff bs → filter (fits c) (uncancelled bs) ≡ b ∷ [] → b .cancel ≡ false
-the-opposite-original bs c b k e =
-    neither (b .cancel) false (ap (any (λ b. b .cancel)) (sym e) ∙ any-filter-none (λ b. b .cancel) (fits c) (uncancelled bs) (k .originals-only)) .0
+-- of which one less is live or held
+any-parts : (p : Bill → Bool) (xs ys : List Bill) (b : Bill) → any p (xs ++ b ∷ ys) ≡ false → (p b ≡ false) × (any p (xs ++ ys) ≡ false)
+any-parts p xs ys b e =
+    let h = neither (any p xs) (p b || any p ys) (sym (any-append p xs (b ∷ ys)) ∙ e) in
+    let k = neither (p b) (any p ys) (h .1) in
+    (k .0, any-append p xs ys ∙ rw (h .0, k .1))
+
+originals-parts : (bs : List Standing) (c : Bill) → c .cancel ≡ true → (n : Named c bs) → PairOff bs
+    → (n .at .bill .cancel ≡ false) × (any (λ b. b .cancel) (uncancelled (turn bs c)) ≡ false)
+originals-parts bs c y n k =
+    let h = any-parts (λ b. b .cancel) (uncancelled (n .before)) (uncancelled (n .after)) (n .at .bill) (ap (any (λ b. b .cancel)) (sym (with-it bs c y n)) ∙ k .originals-only) in
+    (h .0, ap (any (λ b. b .cancel)) (without-it bs c y n) ∙ h .1)
 
 count-one : (p : Bill → Bool) (bs : List Bill) (b : Bill) → count p (bs ++ b ∷ []) ≡ count p bs + cond (p b) 1 0
 count-one p bs b = count-append p bs (b ∷ [])
@@ -150,20 +152,23 @@ count-one p bs b = count-append p bs (b ∷ [])
 count-turn : (p : Bill → Bool) (bs : List Standing) (b : Bill) → count p (bills (turn bs b)) ≡ count p (bills bs) + cond (p b) 1 0
 count-turn p bs b = ap (count p) (bills-turn bs b) ∙ count-one p (bills bs) b
 
-pair-off-cancel : (bs : List Standing) (c : Bill) → c .cancel ≡ true → Once (bills bs) → HasOpposite bs c → PairOff bs → PairOff (turn bs c)
-pair-off-cancel bs c e o m k =
+pair-off-cancel : (bs : List Standing) (c : Bill) → c .cancel ≡ true → HasOpposite bs c → PairOff bs → PairOff (turn bs c)
+pair-off-cancel bs c e m k =
     record {
-      originals-only = ap (any (λ b. b .cancel)) (uncancelled-cancel bs c e) ∙ any-filter-none (λ b. b .cancel) (λ b. not (fits c b)) (uncancelled bs) (k .originals-only);
+      originals-only = originals-parts bs c e (the-opposite bs c m .named) k .1;
       counted = counted-cancel;
     }
   where
     counted-cancel : (key : Key) → count (has key) (uncancelled (turn bs c)) + count (isCancelOf key) (bills (turn bs c)) ≡ count (isOriginalOf key) (bills (turn bs c))
     counted-cancel key =
-        let one = the-opposite bs c o m in
-        let left = ap (count (has key)) (uncancelled-cancel bs c e) in
-        let parts = count-split (has key) (fits c) (uncancelled bs) in
-        let gone : count (has key) (filter (fits c) (uncancelled bs)) ≡ cond (sameKey (referenceKey c) key) 1 0 =
-        ap (count (has key)) (one .1) ∙ ap (λ (x : Key). cond (sameKey x key) 1 0) (fits-key c (one .0) (one .2)) in
+        let n = the-opposite bs c m .named in
+        let xs = uncancelled (n .before) in
+        let ys = uncancelled (n .after) in
+        let b = n .at .bill in
+        let left = ap (count (has key)) (without-it bs c e n) ∙ count-append (has key) xs ys in
+        let parts = ap (count (has key)) (with-it bs c e n) ∙ count-append (has key) xs (b ∷ ys) in
+        let one : count (has key) (b ∷ ys) ≡ count (has key) (b ∷ []) + count (has key) ys = count-append (has key) (b ∷ []) ys in
+        let gone : count (has key) (b ∷ []) ≡ cond (sameKey (referenceKey c) key) 1 0 = ap (λ (x : Key). cond (sameKey x key) 1 0) (fits-key c b (n .fitting)) in
         let more : count (isCancelOf key) (bills (turn bs c)) ≡ count (isCancelOf key) (bills bs) + cond (sameKey (referenceKey c) key) 1 0 =
         count-turn (isCancelOf key) bs c ∙ ap (λ (x : Bool). count (isCancelOf key) (bills bs) + cond (x && sameKey (referenceKey c) key) 1 0) e in
         let same : count (isOriginalOf key) (bills (turn bs c)) ≡ count (isOriginalOf key) (bills bs) + 0 =
@@ -194,21 +199,24 @@ abbrev pub NamesOne : Bill → List Bill → Type 0
 NamesOne c bs = (b : Bill) × (filter (names c) bs ≡ b ∷ []) × Opposite c b
 
 names-at-turn : (bs : List Standing) (c : Bill) → c .cancel ≡ true → Once (bills bs) → HasOpposite bs c → PairOff bs → NamesOne c (bills bs)
-names-at-turn bs c e o m k =
-    let one = the-opposite bs c o m in
-    let b = one .0 in
-    let named : names c b ≡ true = names-fits c b e (the-opposite-original bs c b k (one .1)) ∙ one .2 in
-    let both-true : any (λ x. names c x && opposes c x) (b ∷ []) ≡ true = rw (named, one .3) in
-    let among-uncancelled : any (λ x. names c x && opposes c x) (uncancelled bs) ≡ true =
-    any-of-filter (λ x. names c x && opposes c x) (fits c) (uncancelled bs) (ap (any (λ x. names c x && opposes c x)) (one .1) ∙ both-true) in
-    let among-bills : any (λ x. names c x && opposes c x) (bills bs) ≡ true =
-    any-map (λ x. names c x && opposes c x) (λ s. s .bill) bs
-    ∙ any-of-filter (λ s. names c (s .bill) && opposes c (s .bill)) isUncancelled bs
-    (sym (any-map (λ x. names c x && opposes c x) (λ s. s .bill) (filter isUncancelled bs)) ∙ among-uncancelled) in
+names-at-turn bs c e once m k =
+    let o = the-opposite bs c m in
+    let n = o .named in
+    let b = n .at .bill in
+    let test : Bill → Bool = λ x. names c x && opposes c x in
+    let named : names c b ≡ true = names-fits c b e (originals-parts bs c e n k .0) ∙ n .fitting in
+    let stands : bills bs ≡ bills (n .before) ++ b ∷ bills (n .after) = ap bills (n .stands) ∙ map-append (λ s. s .bill) (n .before) (n .at ∷ (n .after)) in
+    let among : any test (bills bs) ≡ true =
+    ap (any test) stands ∙ any-append test (bills (n .before)) (b ∷ bills (n .after)) ∙ found (any test (bills (n .before))) (test b) (any test (bills (n .after))) (and-both (names c b) (opposes c b) named (o .opposing)) in
     let t =
-    the-one (names c) (opposes c) (bills bs) among-bills
-    (le-trans (count-mono (names c) (fits c) (bills bs) (λ x. and-right (c .cancel && not (x .cancel)) (fits c x))) (fits-once c (bills bs) o)) in
+    the-one (names c) (opposes c) (bills bs) among
+    (le-trans (count-mono (names c) (fits c) (bills bs) (λ x. and-right (c .cancel && not (x .cancel)) (fits c x))) (fits-once c (bills bs) once)) in
     (t .0, t .1, opposite-amounts c (t .0) (t .3))
+  where
+    found : (x y z : Bool) → y ≡ true → (x || (y || z)) ≡ true
+    found true y z e = refl
+    found false true z e = refl
+    found false false z e = absurd (false≢true e)
 
 refers-to : (c b : Bill) → names c b ≡ true → isCancelOf (keyOf b) c ≡ true
 refers-to c b n =
@@ -243,15 +251,12 @@ after-one bs b rest e a =
       sums = a .sums ∙ ap (λ (z : ℤ). z +ℤ charges rest) e ∙ +ℤ-assoc (charges (uncancelled bs)) (b .charge) (charges rest);
     }
 
-pub after-cancels : (bs : List Standing) (cs rest : List Bill) → T (all (λ b. b .cancel) cs) → Once (bills bs ++ (cs ++ rest)) → AllHaveOpposites bs cs → PairOff bs
-    → After bs cs
-after-cancels bs [] rest a o m k = after-none bs k
-after-cancels bs (c ∷ cs) rest a o m k =
+pub after-cancels : (bs : List Standing) (cs : List Bill) → T (all (λ b. b .cancel) cs) → AllHaveOpposites bs cs → PairOff bs → After bs cs
+after-cancels bs [] a m k = after-none bs k
+after-cancels bs (c ∷ cs) a m k =
     let h = both (c .cancel) (all (λ b. b .cancel) cs) a in
     let e = is-true (c .cancel) (h .0) in
-    let o₁ = once-left (bills bs) (c ∷ (cs ++ rest)) o in
-    after-one bs c cs (charges-cancel bs c e o₁ (m .0))
-    (after-cancels (turn bs c) cs rest (h .1) (once-turn bs c (cs ++ rest) o) (m .1) (pair-off-cancel bs c e o₁ (m .0) k))
+    after-one bs c cs (charges-cancel bs c e (m .0)) (after-cancels (turn bs c) cs (h .1) (m .1) (pair-off-cancel bs c e (m .0) k))
 
 pub after-originals : (bs : List Standing) (os : List Bill) → T (all (λ b. not (b .cancel)) os) → PairOff bs → After bs os
 after-originals bs [] a k = after-none bs k
@@ -275,7 +280,7 @@ names-cancels bs (x ∷ cs) rest a o m k c i =
     ⊎-elim
     (λ (p : c ≡ x). subst (λ (y : Bill). NamesOne y (bills bs)) (sym p) (names-at-turn bs x e o₁ (m .0) k))
     (λ (j : List·Memᴰ c cs).
-    let n = names-cancels (turn bs x) cs rest (h .1) (once-turn bs x (cs ++ rest) o) (m .1) (pair-off-cancel bs x e o₁ (m .0) k) c j in
+    let n = names-cancels (turn bs x) cs rest (h .1) (once-turn bs x (cs ++ rest) o) (m .1) (pair-off-cancel bs x e (m .0) k) c j in
     (n .0, sym (skip x e c) ∙ n .1, n .2))
     (List·Memᴰ·cases-cons i)
   where

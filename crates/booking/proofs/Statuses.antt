@@ -1,44 +1,22 @@
--- What the booking order alone decides: no two live periods of a site share a day, and what each original is after the list.
+-- What the booking order decides: no two live periods of a site share a day; and, of records without a key twice, what each is after the list.
+--     cancel-each      where a cancel fits one record at most, to change the earliest that it fits is to change each that it fits
 -- Assumes nothing.
-use mathlib.Core.Path.{_≡_, refl, sym, ap, _∙_, subst}
-use mathlib.Core.Logic.{_↔_}
-use mathlib.Core.Bool.{Bool, true, false, not, _&&_, _||_, cond, and-true, and-false, true≢false, false≢true}
-use mathlib.Core.List.{List, [], _∷_, _++_, map, map-map, append-assoc, append-nil}
-use Prim.Native.Nat.{ℕ, suc, _+_}
-use native.Mathlib.Numerals.{add-one}
+use mathlib.Core.Path.{_≡_, refl, sym, ap, _∙_, subst, subst⁻¹}
+use mathlib.Core.Logic.{_↔_, ⊎-elim}
+use mathlib.Core.Bool.{Bool, true, false, not, _&&_, _||_, cond, and-true, true≢false, false≢true}
+use mathlib.Core.List.{List, [], _∷_, _++_, map, append-assoc, append-nil}
+use Prim.Native.Nat.{ℕ, suc, _+_, _≤_}
 use native.Mathlib.Omega.{arith}
 use lib.Dec.{T, eqb, eqb→eq}
 use lib.ListN.{length, getD, length-append, length-map}
 use lib.Seq.{getD-append-seam}
-use Rattle.lists.specs.Selections.{filter, any, distinct}
-use Rattle.lists.proofs.Selections.{is-true, from-true, eq→eqb, and-left, and-right, and-both, both, is-false, neither, cases, map-append, filter-map, map-ext, filter-append, filter-ext, filter-filter, distinct-filter, distinct-snoc}
+use Rattle.lists.specs.Selections.{filter, any, count, distinct}
+use Rattle.lists.proofs.Selections.{is-true, from-true, eq→eqb, and-left, and-right, and-both, both, is-false, neither, cases, map-append, filter-append, any-ext, distinct-snoc}
 use Rattle.calendar.specs.Periods.{sharesDay}
 use Rattle.calendar.proofs.Periods.{shares-day}
 use Rattle.validation.specs.Accepted.{Bill}
-use Rattle.booking.specs.Guarantee.{fits, names, isPeriod, days, sharesSiteDay, HasDay, Status, live, held, cancelled, cancelling, isLiveStatus, isHeldStatus, Standing, standing, livePeriods, isHeldAtTurn, atTurn, onceNamed, afterCancel, turn, turns, statusAt}
-use Rattle.booking.proofs.Turns.{turn-cancel, turn-original, turns-append, bill-after-cancel}
-
--- ════ what a cancel leaves of a selection of the booked records: those that it doesn't fit
-
-module _ (c : Bill) (chosen : Standing → Bool) (drops : (s : Standing) → chosen (afterCancel c s) ≡ (chosen s && not (fits c (s .bill)))) where
-  pub chosen-left : (bs : List Standing)
-      → map (λ s. s .bill) (filter chosen (map (afterCancel c) bs)) ≡ filter (λ b. not (fits c b)) (map (λ s. s .bill) (filter chosen bs))
-  chosen-left bs =
-      ap (map (λ s. s .bill)) (filter-map chosen (afterCancel c) bs)
-      ∙ map-map (λ s. s .bill) (afterCancel c) (filter (λ s. chosen (afterCancel c s)) bs)
-      ∙ map-ext (λ s. afterCancel c s .bill) (λ s. s .bill) (filter (λ s. chosen (afterCancel c s)) bs) (bill-after-cancel c)
-      ∙ ap (map (λ s. s .bill)) (filter-ext (λ s. chosen (afterCancel c s)) (λ s. chosen s && not (fits c (s .bill))) bs drops)
-      ∙ ap (map (λ s. s .bill)) (sym (filter-filter (λ s. not (fits c (s .bill))) chosen bs))
-      ∙ sym (filter-map (λ b. not (fits c b)) (λ s. s .bill) (filter chosen bs))
-
-  -- the cancel itself isn't chosen
-  pub chosen-after-cancel : (bs : List Standing) → chosen (standing c cancelling) ≡ false
-      → map (λ s. s .bill) (filter chosen (map (afterCancel c) bs ++ standing c cancelling ∷ [])) ≡ filter (λ b. not (fits c b)) (map (λ s. s .bill) (filter chosen bs))
-  chosen-after-cancel bs e =
-      ap (map (λ s. s .bill)) (filter-append chosen (map (afterCancel c) bs) (standing c cancelling ∷ [])
-      ∙ ap (λ (x : Bool). filter chosen (map (afterCancel c) bs) ++ cond x (standing c cancelling ∷ []) []) e
-      ∙ append-nil (filter chosen (map (afterCancel c) bs)))
-      ∙ chosen-left bs
+use Rattle.booking.specs.Guarantee.{fits, names, isPeriod, days, sharesSiteDay, HasDay, Status, live, held, cancelled, cancelling, isLiveStatus, isHeldStatus, Standing, standing, livePeriods, isHeldAtTurn, atTurn, isUncancelled, cancelFitting, turn, turns, statusAt}
+use Rattle.booking.proofs.Turns.{turn-cancel, turn-original, turns-append, bills, bills-cancelled, bills-turn, bills-turns, Once, fits-once, once-left, once-turn, Named, NoneNamed, named-or-none, chosen-with, chosen-same, chosen-left, chosen-after-cancel}
 
 -- ════ no two live periods of a site share a day
 
@@ -59,20 +37,6 @@ shares-site-day p q = (
 abbrev isLivePeriod : Standing → Bool
 isLivePeriod s = isLiveStatus (s .status) && isPeriod (s .bill)
 
-live-period-drops : (c : Bill) (s : Standing) → isLivePeriod (afterCancel c s) ≡ (isLivePeriod s && not (fits c (s .bill)))
-live-period-drops c s = go (fits c (s .bill)) (s .status)
-  where
-    go : (x : Bool) (t : Status)
-        → isLivePeriod (cond x (standing (s .bill) (onceNamed t)) (standing (s .bill) t)) ≡ (isLiveStatus t && isPeriod (s .bill) && not x)
-    go true live = sym (and-false (isPeriod (s .bill)))
-    go true held = refl
-    go true cancelled = refl
-    go true cancelling = refl
-    go false live = sym (and-true (isPeriod (s .bill)))
-    go false held = refl
-    go false cancelled = refl
-    go false cancelling = refl
-
 -- all that matters here of what holds an original at its turn: a period that isn't held shares no day with a live period of its site
 unheld-apart : (bs : List Standing) (b : Bill) → isHeldAtTurn bs b ≡ false → isPeriod b ≡ true → any (sharesSiteDay b) (livePeriods bs) ≡ false
 unfolding isHeldAtTurn
@@ -81,10 +45,32 @@ unheld-apart bs b h p = ap (λ (x : Bool). x && any (sharesSiteDay b) (livePerio
 unfoldable pub Apart : List Standing → Type 0
 Apart bs = T (distinct (λ p q. sharesSiteDay q p) (livePeriods bs))
 
-apart-cancel : (bs : List Standing) (c : Bill) → Apart bs → Apart (map (afterCancel c) bs ++ standing c cancelling ∷ [])
+-- one of them less
+module _ {A : Type 0} where
+  any-less : (p : A → Bool) (xs ys : List A) (y : A) → any p (xs ++ y ∷ ys) ≡ false → any p (xs ++ ys) ≡ false
+  any-less p [] ys y e = neither (p y) (any p ys) e .1
+  any-less p (x ∷ xs) ys y e = let n = neither (p x) (any p (xs ++ y ∷ ys)) e in rw (n .0) (any-less p xs ys y (n .1))
+
+  distinct-less : (same : A → A → Bool) (xs ys : List A) (y : A) → T (distinct same (xs ++ y ∷ ys)) → T (distinct same (xs ++ ys))
+  distinct-less same [] ys y t = both (not (any (same y) ys)) (distinct same ys) t .1
+  distinct-less same (x ∷ xs) ys y t =
+      let h = both (not (any (same x) (xs ++ y ∷ ys))) (distinct same (xs ++ y ∷ ys)) t in
+      rw (any-less (same x) xs ys y (is-false (any (same x) (xs ++ y ∷ ys)) (h .0))) (distinct-less same xs ys y (h .1))
+
+apart-cancel : (bs : List Standing) (c : Bill) → c .cancel ≡ true → Apart bs → Apart (turn bs c)
 unfolding Apart
-apart-cancel bs c a =
-    rw (chosen-after-cancel c isLivePeriod (live-period-drops c) bs refl) (distinct-filter (λ p q. sharesSiteDay q p) (λ b. not (fits c b)) (livePeriods bs) a)
+apart-cancel bs c y a =
+    rw (chosen-after-cancel c isLivePeriod refl bs y)
+    (⊎-elim named (λ (n : NoneNamed c bs). rw (n .leaves) a) (named-or-none c bs))
+  where
+    named : Named c bs → T (distinct (λ p q. sharesSiteDay q p) (livePeriods (cancelFitting c bs)))
+    named n =
+        let xs = livePeriods (n .before) in
+        let ys = livePeriods (n .after) in
+        subst⁻¹ (λ (l : List Bill). T (distinct (λ p q. sharesSiteDay q p) l)) (chosen-left c isLivePeriod (λ b. refl) bs n)
+        (cases (isLivePeriod (n .at))
+        (λ e. distinct-less (λ p q. sharesSiteDay q p) xs ys (n .at .bill) (subst (λ (l : List Bill). T (distinct (λ p q. sharesSiteDay q p) l)) (chosen-with c isLivePeriod (λ b. refl) bs n e) a))
+        (λ e. subst (λ (l : List Bill). T (distinct (λ p q. sharesSiteDay q p) l)) (chosen-same c isLivePeriod (λ b. refl) bs n e) a))
 
 apart-original : (bs : List Standing) (b : Bill) → Apart bs → Apart (bs ++ standing b (atTurn bs b) ∷ [])
 unfolding Apart
@@ -109,12 +95,15 @@ apart-turns bs [] a = a
 apart-turns bs (b ∷ rest) a =
     apart-turns (turn bs b) rest
     (cases (b .cancel)
-    (λ e. subst Apart (sym (turn-cancel bs b e)) (apart-cancel bs b a))
+    (λ e. apart-cancel bs b e a)
     (λ e. subst Apart (sym (turn-original bs b e)) (apart-original bs b a)))
 
-pub apart-archive : (booked : List Bill) → Apart (turns [] booked)
+pub apart-archive : (start : List Standing) (booked : List Bill) → Apart start → Apart (turns start booked)
+apart-archive = apart-turns
+
+pub apart-none : Apart []
 unfolding Apart
-apart-archive booked = apart-turns [] booked tt
+apart-none = tt
 
 -- where no two share a day, a day is in one at most
 pub apart-days : (bs : List Standing) → Apart bs → (before between after : List Bill) (p q : Bill) (site day : ℕ)
@@ -136,18 +125,54 @@ apart-days bs a before between after p q site day e hp hq =
         go xs
         (both (not (any (λ r. sharesSiteDay r x) (xs ++ p ∷ (between ++ q ∷ after)))) (distinct (λ p q. sharesSiteDay q p) (xs ++ p ∷ (between ++ q ∷ after))) t .1)
 
--- ════ what an original is after the list
+-- ════ what a record is after the list
 
 turn-length : (bs : List Standing) (b : Bill) → length (turn bs b) ≡ suc (length bs)
-turn-length bs b = cases (b .cancel)
-    (λ e.
-    ap length (turn-cancel bs b e) ∙ length-append (map (afterCancel b) bs) (standing b cancelling ∷ [])
-    ∙ ap (λ (n : ℕ). n + 1) (length-map bs (afterCancel b)) ∙ add-one (length bs))
-    (λ e. ap length (turn-original bs b e) ∙ length-append bs (standing b (atTurn bs b) ∷ []) ∙ add-one (length bs))
+turn-length bs b = sym (length-map (turn bs b) (λ s. s .bill)) ∙ ap length (bills-turn bs b) ∙ length-append (bills bs) (b ∷ []) ∙ omega (arith, length-map bs (λ (s : Standing). s .bill))
 
 turns-length : (bs : List Standing) (rest : List Bill) → length (turns bs rest) ≡ length bs + length rest
 turns-length bs [] = omega arith
 turns-length bs (b ∷ rest) = turns-length (turn bs b) rest ∙ omega (arith, turn-length bs b)
+
+-- ---- where a cancel fits one record at most, it changes that one and no other
+
+abbrev pub onceNamed : Status → Status
+onceNamed live = cancelled
+onceNamed held = cancelled
+onceNamed cancelled = cancelled
+onceNamed cancelling = cancelling
+
+abbrev pub afterCancel : Bill → Standing → Standing
+afterCancel c s = cond (fits c (s .bill)) (standing (s .bill) (onceNamed (s .status))) s
+
+fits-none : (c : Bill) (bs : List Standing) → count (fits c) (bills bs) ≤ 0 → map (afterCancel c) bs ≡ bs
+fits-none c [] h = refl
+fits-none c (s ∷ bs) h = cases (fits c (s .bill))
+    (λ e. let h′ : suc (count (fits c) (bills bs)) ≤ 0 = rw e at h in absurd (omega arith))
+    (λ e. rw e (ap (λ (l : List Standing). s ∷ l) (fits-none c bs (rw e at h))))
+
+pub cancel-each : (c : Bill) (bs : List Standing) → count (fits c) (bills bs) ≤ 1 → cancelFitting c bs ≡ map (afterCancel c) bs
+cancel-each c [] h = refl
+cancel-each c (s ∷ bs) h = cases (fits c (s .bill))
+    (λ e.
+    let h′ : suc (count (fits c) (bills bs)) ≤ 1 = rw e at h in
+    let none = fits-none c bs (omega arith) in
+    rw e (here (s .status) none (cancel-each c bs (omega arith) ∙ none)))
+    (λ e. rw e (missed (isUncancelled s) (cancel-each c bs (rw e at h))))
+  where
+    here : (t : Status) → map (afterCancel c) bs ≡ bs → cancelFitting c bs ≡ bs
+        → cond ((isLiveStatus t || isHeldStatus t) && true) (standing (s .bill) cancelled ∷ bs) (standing (s .bill) t ∷ cancelFitting c bs)
+        ≡ standing (s .bill) (onceNamed t) ∷ map (afterCancel c) bs
+    here live m n = ap (λ (l : List Standing). standing (s .bill) cancelled ∷ l) (sym m)
+    here held m n = ap (λ (l : List Standing). standing (s .bill) cancelled ∷ l) (sym m)
+    here cancelled m n = ap (λ (l : List Standing). standing (s .bill) cancelled ∷ l) (n ∙ sym m)
+    here cancelling m n = ap (λ (l : List Standing). standing (s .bill) cancelling ∷ l) (n ∙ sym m)
+
+    missed : (x : Bool) → cancelFitting c bs ≡ map (afterCancel c) bs → cond (x && false) (standing (s .bill) cancelled ∷ bs) (s ∷ cancelFitting c bs) ≡ s ∷ map (afterCancel c) bs
+    missed true m = ap (λ (l : List Standing). s ∷ l) m
+    missed false m = ap (λ (l : List Standing). s ∷ l) m
+
+-- ---- the status of a booked record, after more turns
 
 cond-same : (x : Bool) (s : Status) → cond x s s ≡ s
 cond-same true s = refl
@@ -159,75 +184,102 @@ named-twice held = refl
 named-twice cancelled = refl
 named-twice cancelling = refl
 
+-- a cancel that fits it
+abbrev cancelsIt : Bill → Bill → Bool
+cancelsIt b c = c .cancel && fits c b
+
 pub names-fits : (c b : Bill) → c .cancel ≡ true → b .cancel ≡ false → names c b ≡ fits c b
 names-fits c b e o = λ i. e i && not (o i) && fits c b
 
-names-none : (c b : Bill) → c .cancel ≡ false → names c b ≡ false
-names-none c b e = λ i. e i && not (b .cancel) && fits c b
-
--- the status of a booked original, after more turns
-status-after : (xs ys : List Standing) (b : Bill) (s : Status) (after : List Bill) → b .cancel ≡ false
-    → statusAt (length xs) (turns (xs ++ standing b s ∷ ys) after) ≡ cond (any (λ c. names c b) after) (onceNamed s) s
-status-after xs ys b s [] o =
-    ap (λ (l : List Status). getD l (length xs) cancelling) (map-append (λ x. x .status) xs (standing b s ∷ ys))
-    ∙ ap (λ (n : ℕ). getD (map (λ x. x .status) xs ++ s ∷ map (λ x. x .status) ys) n cancelling) (sym (length-map xs (λ x. x .status)))
-    ∙ getD-append-seam (map (λ x. x .status) xs) s (map (λ x. x .status) ys) cancelling
-status-after xs ys b s (a ∷ after) o = cases (a .cancel)
+status-after : (xs ys : List Standing) (b : Bill) (s : Status) (after : List Bill) → Once (bills (xs ++ standing b s ∷ ys) ++ after)
+    → statusAt (length xs) (turns (xs ++ standing b s ∷ ys) after) ≡ cond (any (cancelsIt b) after) (onceNamed s) s
+status-after xs ys b s [] once =
+    ap (λ (l : List Status). getD l (length xs) cancelled) (map-append (λ x. x .status) xs (standing b s ∷ ys))
+    ∙ ap (λ (n : ℕ). getD (map (λ x. x .status) xs ++ s ∷ map (λ x. x .status) ys) n cancelled) (sym (length-map xs (λ x. x .status)))
+    ∙ getD-append-seam (map (λ x. x .status) xs) s (map (λ x. x .status) ys) cancelled
+status-after xs ys b s (a ∷ after) once = cases (a .cancel)
     (λ e.
-    ap (λ (l : List Standing). statusAt (length xs) (turns l after)) (turn-cancel (xs ++ standing b s ∷ ys) a e ∙ shape)
+    ap (λ (l : List Standing). statusAt (length xs) (turns l after)) (cancelled-turn e)
     ∙ ap (λ (n : ℕ). statusAt n (turns (map (afterCancel a) xs ++ standing b (cond (fits a b) (onceNamed s) s) ∷ (map (afterCancel a) ys ++ standing a cancelling ∷ [])) after))
     (sym (length-map xs (afterCancel a)))
-    ∙ status-after (map (afterCancel a) xs) (map (afterCancel a) ys ++ standing a cancelling ∷ []) b (cond (fits a b) (onceNamed s) s) after o
-    ∙ merge (fits a b) (any (λ c. names c b) after)
-    ∙ ap (λ (x : Bool). cond (x || any (λ c. names c b) after) (onceNamed s) s) (sym (names-fits a b e o)))
+    ∙ status-after (map (afterCancel a) xs) (map (afterCancel a) ys ++ standing a cancelling ∷ []) b (cond (fits a b) (onceNamed s) s) after
+    (subst (λ (l : List Standing). Once (bills l ++ after)) (cancelled-turn e) next-once)
+    ∙ merge (fits a b) (any (cancelsIt b) after)
+    ∙ ap (λ (x : Bool). cond ((x && fits a b) || any (cancelsIt b) after) (onceNamed s) s) (sym e))
     (λ e.
-    ap (λ (l : List Standing). statusAt (length xs) (turns l after))
-    (turn-original (xs ++ standing b s ∷ ys) a e ∙ append-assoc xs (standing b s ∷ ys) (standing a (atTurn (xs ++ standing b s ∷ ys) a) ∷ []))
-    ∙ status-after xs (ys ++ standing a (atTurn (xs ++ standing b s ∷ ys) a) ∷ []) b s after o
-    ∙ ap (λ (x : Bool). cond (x || any (λ c. names c b) after) (onceNamed s) s) (sym (names-none a b e)))
+    ap (λ (l : List Standing). statusAt (length xs) (turns l after)) (original-turn e)
+    ∙ status-after xs (ys ++ standing a (atTurn (xs ++ standing b s ∷ ys) a) ∷ []) b s after (subst (λ (l : List Standing). Once (bills l ++ after)) (original-turn e) next-once)
+    ∙ ap (λ (x : Bool). cond ((x && fits a b) || any (cancelsIt b) after) (onceNamed s) s) (sym e))
   where
+    next-once : Once (bills (turn (xs ++ standing b s ∷ ys) a) ++ after)
+    next-once = once-turn (xs ++ standing b s ∷ ys) a after once
+
     outside : (x : Bool) → cond x (standing b (onceNamed s)) (standing b s) ≡ standing b (cond x (onceNamed s) s)
     outside true = refl
     outside false = refl
 
-    shape : map (afterCancel a) (xs ++ standing b s ∷ ys) ++ standing a cancelling ∷ []
+    cancelled-turn : a .cancel ≡ true → turn (xs ++ standing b s ∷ ys) a
         ≡ map (afterCancel a) xs ++ standing b (cond (fits a b) (onceNamed s) s) ∷ (map (afterCancel a) ys ++ standing a cancelling ∷ [])
-    shape =
-        ap (λ (l : List Standing). l ++ standing a cancelling ∷ []) (map-append (afterCancel a) xs (standing b s ∷ ys))
+    cancelled-turn e =
+        turn-cancel (xs ++ standing b s ∷ ys) a e
+        ∙ ap (λ (l : List Standing). l ++ standing a cancelling ∷ [])
+        (cancel-each a (xs ++ standing b s ∷ ys) (fits-once a (bills (xs ++ standing b s ∷ ys)) (once-left (bills (xs ++ standing b s ∷ ys)) (a ∷ after) once))
+        ∙ map-append (afterCancel a) xs (standing b s ∷ ys))
         ∙ append-assoc (map (afterCancel a) xs) (afterCancel a (standing b s) ∷ map (afterCancel a) ys) (standing a cancelling ∷ [])
         ∙ ap (λ (x : Standing). map (afterCancel a) xs ++ x ∷ (map (afterCancel a) ys ++ standing a cancelling ∷ [])) (outside (fits a b))
+
+    original-turn : a .cancel ≡ false → turn (xs ++ standing b s ∷ ys) a ≡ xs ++ standing b s ∷ (ys ++ standing a (atTurn (xs ++ standing b s ∷ ys) a) ∷ [])
+    original-turn e = turn-original (xs ++ standing b s ∷ ys) a e ∙ append-assoc xs (standing b s ∷ ys) (standing a (atTurn (xs ++ standing b s ∷ ys) a) ∷ [])
 
     merge : (x y : Bool) → cond y (onceNamed (cond x (onceNamed s) s)) (cond x (onceNamed s) s) ≡ cond (x || y) (onceNamed s) s
     merge true y = ap (λ (t : Status). cond y t (onceNamed s)) (named-twice s) ∙ cond-same y (onceNamed s)
     merge false y = refl
 
-named-at-turn : (x : Bool) → onceNamed (cond x held live) ≡ cancelled
-named-at-turn true = refl
-named-at-turn false = refl
+-- of records without a key twice, from a start on: the place of a booked one is after those of the start
+module _ (start : List Standing) (before after : List Bill) (b : Bill) (once : Once (bills start ++ (before ++ b ∷ after))) where
+  status-archive : (s : Status) (others : List Standing) → turn (turns start before) b ≡ others ++ standing b s ∷ [] → length others ≡ length start + length before
+      → statusAt (length start + length before) (turns start (before ++ b ∷ after)) ≡ cond (any (cancelsIt b) after) (onceNamed s) s
+  status-archive s others e size =
+      ap (λ (l : List Standing). statusAt (length start + length before) l) (turns-append start before (b ∷ after) ∙ ap (λ (l : List Standing). turns l after) e)
+      ∙ ap (λ (n : ℕ). statusAt n (turns (others ++ standing b s ∷ []) after)) (sym size)
+      ∙ status-after others [] b s after (subst (λ (l : List Standing). Once (bills l ++ after)) e (once-turn (turns start before) b after at-turn))
+    where
+      at-turn : Once (bills (turns start before) ++ b ∷ after)
+      at-turn = subst⁻¹ Once (ap (λ (l : List Bill). l ++ b ∷ after) (bills-turns start before) ∙ append-assoc (bills start) before (b ∷ after)) once
 
-status-archive : (before after : List Bill) (b : Bill) → b .cancel ≡ false
-    → statusAt (length before) (turns [] (before ++ b ∷ after)) ≡ cond (any (λ c. names c b) after) cancelled (atTurn (turns [] before) b)
-status-archive before after b o =
-    let bs = turns [] before in
-    ap (λ (l : List Standing). statusAt (length before) l)
-    (turns-append [] before (b ∷ after) ∙ ap (λ (l : List Standing). turns l after) (turn-original bs b o))
-    ∙ ap (λ (n : ℕ). statusAt n (turns (bs ++ standing b (atTurn bs b) ∷ []) after)) (omega (arith, turns-length [] before))
-    ∙ status-after bs [] b (atTurn bs b) after o
-    ∙ ap (λ (s : Status). cond (any (λ c. names c b) after) s (atTurn bs b)) (named-at-turn (isHeldAtTurn bs b))
+  -- an original
+  status-original : b .cancel ≡ false
+      → statusAt (length start + length before) (turns start (before ++ b ∷ after)) ≡ cond (any (λ c. names c b) after) cancelled (atTurn (turns start before) b)
+  status-original o =
+      status-archive (atTurn (turns start before) b) (turns start before) (turn-original (turns start before) b o) (turns-length start before)
+      ∙ (λ i. cond (any-ext (cancelsIt b) (λ c. names c b) after (λ c. regroup (c .cancel) (fits c b)) i) (named-at-turn (isHeldAtTurn (turns start before) b) i) (atTurn (turns start before) b))
+    where
+      named-at-turn : (x : Bool) → onceNamed (cond x held live) ≡ cancelled
+      named-at-turn true = refl
+      named-at-turn false = refl
 
--- named or not, held at its turn or not: it is what it was at its turn just where no cancel has named it since
-unnamed-exactly : (named h t : Bool) → (cond named cancelled (cond h held live) ≡ cond t held live) ↔ ((h ≡ t) × (named ≡ false))
-unnamed-exactly true h true = (λ e. absurd (false≢true (ap isHeldStatus e)), λ w. absurd (true≢false (w .1)))
-unnamed-exactly true h false = (λ e. absurd (false≢true (ap isLiveStatus e)), λ w. absurd (true≢false (w .1)))
-unnamed-exactly false true true = (λ e. (refl, refl), λ w. refl)
-unnamed-exactly false true false = (λ e. absurd (false≢true (ap isLiveStatus e)), λ w. absurd (true≢false (w .0)))
-unnamed-exactly false false true = (λ e. absurd (false≢true (ap isHeldStatus e)), λ w. absurd (false≢true (w .0)))
-unnamed-exactly false false false = (λ e. (refl, refl), λ w. refl)
+      regroup : (x y : Bool) → (x && y) ≡ (x && not (b .cancel) && y)
+      regroup x y = sym ((λ i. x && not (o i) && y) ∙ (λ i. and-true x i && y))
 
--- an original is held (t is true), or live (t is false), just where it was so at its turn and no cancel has named it since
-pub status-exactly : (t : Bool) (booked before after : List Bill) (b : Bill) → booked ≡ before ++ b ∷ after → b .cancel ≡ false
-    → (statusAt (length before) (turns [] booked) ≡ cond t held live) ↔ ((isHeldAtTurn (turns [] before) b ≡ t) × (any (λ c. names c b) after ≡ false))
-status-exactly t booked before after b e o =
-    subst (λ (s : Status). (s ≡ cond t held live) ↔ ((isHeldAtTurn (turns [] before) b ≡ t) × (any (λ c. names c b) after ≡ false)))
-    (sym (ap (λ (l : List Bill). statusAt (length before) (turns [] l)) e ∙ status-archive before after b o))
-    (unnamed-exactly (any (λ c. names c b) after) (isHeldAtTurn (turns [] before) b) t)
+  -- "A cancel is neither."
+  pub status-cancel : b .cancel ≡ true → statusAt (length start + length before) (turns start (before ++ b ∷ after)) ≡ cancelling
+  status-cancel y =
+      status-archive cancelling (cancelFitting b (turns start before)) (turn-cancel (turns start before) b y)
+      (sym (length-map (cancelFitting b (turns start before)) (λ s. s .bill)) ∙ ap length (bills-cancelled b (turns start before)) ∙ length-map (turns start before) (λ s. s .bill) ∙ turns-length start before)
+      ∙ cond-same (any (cancelsIt b) after) cancelling
+
+  -- named or not, held at its turn or not: it is what it was at its turn just where no cancel has named it since
+  unnamed-exactly : (named h t : Bool) → (cond named cancelled (cond h held live) ≡ cond t held live) ↔ ((h ≡ t) × (named ≡ false))
+  unnamed-exactly true h true = (λ e. absurd (false≢true (ap isHeldStatus e)), λ w. absurd (true≢false (w .1)))
+  unnamed-exactly true h false = (λ e. absurd (false≢true (ap isLiveStatus e)), λ w. absurd (true≢false (w .1)))
+  unnamed-exactly false true true = (λ e. (refl, refl), λ w. refl)
+  unnamed-exactly false true false = (λ e. absurd (false≢true (ap isLiveStatus e)), λ w. absurd (true≢false (w .0)))
+  unnamed-exactly false false true = (λ e. absurd (false≢true (ap isHeldStatus e)), λ w. absurd (false≢true (w .0)))
+  unnamed-exactly false false false = (λ e. (refl, refl), λ w. refl)
+
+  -- an original is held (t is true), or live (t is false), just where it was so at its turn and no cancel has named it since
+  pub status-exactly : (t : Bool) → b .cancel ≡ false
+      → (statusAt (length start + length before) (turns start (before ++ b ∷ after)) ≡ cond t held live) ↔ ((isHeldAtTurn (turns start before) b ≡ t) × (any (λ c. names c b) after ≡ false))
+  status-exactly t o =
+      subst (λ (s : Status). (s ≡ cond t held live) ↔ ((isHeldAtTurn (turns start before) b ≡ t) × (any (λ c. names c b) after ≡ false)))
+      (sym (status-original o)) (unnamed-exactly (any (λ c. names c b) after) (isHeldAtTurn (turns start before) b) t)

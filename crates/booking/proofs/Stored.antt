@@ -1,24 +1,23 @@
 -- The ledger's entries, those of files left out, are the entries of the booked records with what they are now, in booking order.
 -- Assumes nothing.
-use mathlib.Core.Path.{_≡_, refl, sym, ap, _∙_, subst⁻¹}
-use mathlib.Core.Bool.{Bool, true, false, not, _&&_, _||_, cond, and-assoc}
+use mathlib.Core.Path.{_≡_, refl, sym, ap, _∙_}
+use mathlib.Core.Bool.{Bool, true, false, not, _&&_, _||_, cond, and-assoc, true≢false}
 use mathlib.Core.List.{List, [], _∷_, _++_, map, map-map, append-nil}
-use Prim.Native.Nat.{ℕ, suc, _≤_}
-use native.Mathlib.Nat.{le-trans, le-of-eq}
-use native.Mathlib.Omega.{arith}
+use Prim.Native.Nat.{ℕ, suc}
 use lib.Dec.{T, eqb, eqb→eq, eqb·zero-suc}
 use borrow.Author.Tests.{eqb-true, eqb-false, eq-eqb}
-use Rattle.lists.specs.Selections.{filter, any, all, count}
-use Rattle.lists.proofs.Selections.{is-true, from-true, both, is-false, not-false, and-right, cases, count-map, count-mono, map-append, filter-map, any-map, map-ext, map-filter-ext, filter-append, filter-ext, any-ext, filter-under, any-under, any-filter, all-filter}
+use Rattle.lists.specs.Selections.{filter, any, all}
+use Rattle.lists.proofs.Selections.{is-true, from-true, both, is-false, not-false, and-left, cases, map-append, filter-map, any-map, map-filter-ext, filter-append, filter-ext, any-ext, filter-under, any-under, any-filter, all-filter}
 use Rattle.calendar.specs.Periods.{sharesDay}
 use Rattle.calendar.proofs.Periods.{shares-day-symmetric}
 use Rattle.validation.specs.Accepted.{Bill, BillFile}
 use Rattle.entries.specs.declared.Entry.{Entry}
 use Rattle.entries.specs.Entries.{isLive, isHeld, inState}
 use Rattle.soundness.specs.Sound.{sameSubject}
-use Rattle.booking.specs.Booking.{cancels, originals, entry, fileEntry, refersTo, isLiveOrHeld, namesEntry, cancelNamed, overlaps, stateOf, bookCancels, bookOriginals, booked}
-use Rattle.booking.specs.Guarantee.{fits, isPeriod, days, sharesSiteDay, Status, live, held, cancelled, cancelling, isLiveStatus, isHeldStatus, Standing, standing, livePeriods, isHeldAtTurn, atTurn, onceNamed, afterCancel, turn, turns, liveOf, heldOf}
-use Rattle.booking.proofs.Turns.{turn-cancel, turn-original, turns-append, bills, Once, fits-once, once-left, once-turn}
+use Rattle.booking.specs.Booking.{cancels, originals, entry, fileEntry, refersTo, isLiveOrHeld, namesEntry, cancelNamed, overlaps, stateOf, original, bookCancels, bookOriginals, booked}
+use Rattle.booking.specs.Guarantee.{fits, isPeriod, days, sharesSiteDay, Status, live, held, cancelled, cancelling, isLiveStatus, isHeldStatus, Standing, standing, livePeriods, isHeldAtTurn, atTurn, isUncancelled, cancelFitting, turn, turns, liveOf, heldOf}
+use Rattle.booking.proofs.Turns.{turn-cancel, turn-original, turns-append}
+use Rattle.booking.proofs.Overlaps.{overlap-found}
 
 -- "state (1 live, 2 held, 3 cancelled, 4 cancel)"
 abbrev pub code : Status → ℕ
@@ -61,95 +60,58 @@ fits-entry c b n =
     regroup true b c d e f g = refl
     regroup false b c d e f g = refl
 
--- the entries that a test of the cancel chooses are of some of the records, which have no key twice: it names one at most
-names-entry-fits : (c : Bill) (s : Standing) → namesEntry c (entryNow s) ≡ true → fits c (s .bill) ≡ true
-names-entry-fits c s e =
-    sym (fits-entry c (s .bill) (code (s .status)))
-    ∙ and-right (isLiveOrHeld (entryNow s)) (fitsEntry c (entryNow s)) (sym (names-fits-entry c (entryNow s)) ∙ e)
-
-count-under : {A : Type 0} (p q : A → Bool) (xs : List A) → ((x : A) → q x ≡ false → p x ≡ false) → count p (filter q xs) ≡ count p xs
-count-under p q [] h = refl
-count-under p q (x ∷ xs) h = cases (q x)
-    (λ e. rw e (rw (count-under p q xs h)))
-    (λ e. rw (e, h x e) (count-under p q xs h))
-
-pub names-entry-once : (c : Bill) (l : List Entry) (chosen : Entry → Bool) (bs : List Standing) → ((e : Entry) → chosen e ≡ false → namesEntry c e ≡ false)
-    → filter chosen l ≡ map entryNow bs → Once (bills bs) → count (namesEntry c) l ≤ 1
-names-entry-once c l chosen bs h t o =
-    le-trans (le-of-eq (sym (count-under (namesEntry c) chosen l h) ∙ ap (count (namesEntry c)) t ∙ count-map (namesEntry c) entryNow bs))
-    (le-trans (count-mono (λ s. namesEntry c (entryNow s)) (λ s. fits c (s .bill)) bs (names-entry-fits c))
-    (le-trans (le-of-eq (sym (count-map (fits c) (λ s. s .bill) bs))) (fits-once c (bills bs) o)))
-
--- ════ a cancel
-
--- one entry of the ledger, as the cancel leaves it
-abbrev pub afterCancelEntry : Bill → Entry → Entry
-afterCancelEntry c e = cond (namesEntry c e) (inState e 3) e
-
-names-none : (c : Bill) (l : List Entry) → count (namesEntry c) l ≤ 0 → l ≡ map (afterCancelEntry c) l
-names-none c [] h = refl
-names-none c (e ∷ l) h = cases (namesEntry c e)
-    (λ t. let h′ : suc (count (namesEntry c) l) ≤ 0 = rw t at h in absurd (omega arith))
-    (λ t. rw t (ap (λ (x : List Entry). e ∷ x) (names-none c l (rw t at h))))
-
--- where a cancel names one entry at most, to cancel the earliest is to cancel all that it names
-pub cancel-all : (c : Bill) (l : List Entry) → count (namesEntry c) l ≤ 1 → cancelNamed c l ≡ map (afterCancelEntry c) l
-cancel-all c [] h = refl
-cancel-all c (e ∷ l) h = cases (namesEntry c e)
-    (λ t. let h′ : suc (count (namesEntry c) l) ≤ 1 = rw t at h in rw t (ap (λ (x : List Entry). inState e 3 ∷ x) (names-none c l (omega arith))))
-    (λ t. rw t (ap (λ (x : List Entry). e ∷ x) (cancel-all c l (rw t at h))))
+-- a cancel names the entry of a record just where the record is live or held and the cancel fits it
+pub names-now : (c : Bill) (s : Standing) → namesEntry c (entryNow s) ≡ (isUncancelled s && fits c (s .bill))
+names-now c s = names-fits-entry c (entryNow s) ∙ (λ i. uncancelled-code (s .status) i && fits-entry c (s .bill) (code (s .status)) i)
+  where
+    uncancelled-code : (s : Status) → (eqb (code s) 1 || eqb (code s) 2) ≡ (isLiveStatus s || isHeldStatus s)
+    uncancelled-code live = refl
+    uncancelled-code held = refl
+    uncancelled-code cancelled = refl
+    uncancelled-code cancelling = refl
 
 names-no-file : (c : Bill) (e : Entry) → isRecord e ≡ false → namesEntry c e ≡ false
 unfolding namesEntry
 names-no-file c e h = rw (file-state e h)
 
-after-cancel-of : (c b : Bill) (s : Status) → afterCancelEntry c (entry b (code s)) ≡ entryNow (afterCancel c (standing b s))
-after-cancel-of c b s = ap (λ (x : Bool). cond x (inState (entry b (code s)) 3) (entry b (code s))) (names s) ∙ go (fits c b) s
+pub names-record : (c : Bill) (e : Entry) → namesEntry c e ≡ true → isRecord e ≡ true
+names-record c e n = cases (isRecord e) (λ h. h) (λ h. absurd (true≢false (sym n ∙ names-no-file c e h)))
+
+-- ════ a cancel
+
+-- no file entry is named: the entries of the records are changed as by themselves
+records-cancelled : (c : Bill) (l : List Entry) → filter isRecord (cancelNamed c l) ≡ cancelNamed c (filter isRecord l)
+records-cancelled c [] = refl
+records-cancelled c (e ∷ l) = cases (namesEntry c e)
+    (λ n. rw (n, names-record c e n) (rw n))
+    (λ n. rw n (go n (isRecord e) (records-cancelled c l)))
   where
-    names : (s : Status) → namesEntry c (entry b (code s)) ≡ ((isLiveStatus s || isHeldStatus s) && fits c b)
-    names live = names-fits-entry c (entry b 1) ∙ fits-entry c b 1
-    names held = names-fits-entry c (entry b 2) ∙ fits-entry c b 2
-    names cancelled = names-fits-entry c (entry b 3)
-    names cancelling = names-fits-entry c (entry b 4)
+    go : namesEntry c e ≡ false → (x : Bool) → filter isRecord (cancelNamed c l) ≡ cancelNamed c (filter isRecord l)
+        → cond x (e ∷ filter isRecord (cancelNamed c l)) (filter isRecord (cancelNamed c l)) ≡ cancelNamed c (cond x (e ∷ filter isRecord l) (filter isRecord l))
+    go n true h = rw n (ap (λ (m : List Entry). e ∷ m) h)
+    go n false h = h
 
-    go : (x : Bool) (s : Status)
-        → cond ((isLiveStatus s || isHeldStatus s) && x) (inState (entry b (code s)) 3) (entry b (code s)) ≡ entryNow (cond x (standing b (onceNamed s)) (standing b s))
-    go true live = refl
-    go true held = refl
-    go true cancelled = refl
-    go true cancelling = refl
-    go false live = refl
-    go false held = refl
-    go false cancelled = refl
-    go false cancelling = refl
-
-pub after-cancel-entry : (c : Bill) (s : Standing) → afterCancelEntry c (entryNow s) ≡ entryNow (afterCancel c s)
-after-cancel-entry c s = after-cancel-of c (s .bill) (s .status)
-
--- a cancelled entry is a record's before and after
-cancelled-record : (c : Bill) (e : Entry) → isRecord (afterCancelEntry c e) ≡ isRecord e
-unfolding namesEntry
-cancelled-record c e = cases (isRecord e) (go (namesEntry c e)) (λ h. rw (file-state e h))
+-- the earliest entry that it names is that of the earliest record
+cancels-now : (c : Bill) (bs : List Standing) → cancelNamed c (map entryNow bs) ≡ map entryNow (cancelFitting c bs)
+cancels-now c [] = refl
+cancels-now c (s ∷ bs) =
+    ap (λ (x : Bool). cond x (inState (entryNow s) 3 ∷ map entryNow bs) (entryNow s ∷ cancelNamed c (map entryNow bs))) (names-now c s)
+    ∙ cases (isUncancelled s && fits c (s .bill))
+    (λ e. rw e (ap (λ (x : Entry). x ∷ map entryNow bs) (cancelled-now (s .status) (and-left (isUncancelled s) (fits c (s .bill)) e))))
+    (λ e. rw e (ap (λ (m : List Entry). entryNow s ∷ m) (cancels-now c bs)))
   where
-    go : (x : Bool) → isRecord e ≡ true → isRecord (cond x (inState e 3) e) ≡ isRecord e
-    go true h = sym h
-    go false h = refl
+    cancelled-now : (t : Status) → (isLiveStatus t || isHeldStatus t) ≡ true → inState (entry (s .bill) (code t)) 3 ≡ entry (s .bill) 3
+    cancelled-now live e = refl
+    cancelled-now held e = refl
+    cancelled-now cancelled e = absurd (true≢false (sym e))
+    cancelled-now cancelling e = absurd (true≢false (sym e))
 
-stores-cancel : (l : List Entry) (bs : List Standing) (c : Bill) → Once (bills bs) → Stores l bs
-    → Stores (cancelNamed c l ++ entry c 4 ∷ []) (map (afterCancel c) bs ++ standing c cancelling ∷ [])
-stores-cancel l bs c o t =
+pub stores-cancel : (l : List Entry) (bs : List Standing) (c : Bill) → c .cancel ≡ true → Stores l bs → Stores (cancelNamed c l ++ entry c 4 ∷ []) (turn bs c)
+stores-cancel l bs c y t =
     filter-append isRecord (cancelNamed c l) (entry c 4 ∷ [])
-    ∙ ap (λ (x : List Entry). x ++ entry c 4 ∷ []) before
-    ∙ sym (map-append entryNow (map (afterCancel c) bs) (standing c cancelling ∷ []))
-  where
-    before : filter isRecord (cancelNamed c l) ≡ map entryNow (map (afterCancel c) bs)
-    before =
-        ap (filter isRecord) (cancel-all c l (names-entry-once c l isRecord bs (names-no-file c) t o))
-        ∙ filter-map isRecord (afterCancelEntry c) l
-        ∙ ap (map (afterCancelEntry c)) (filter-ext (λ e. isRecord (afterCancelEntry c e)) isRecord l (cancelled-record c) ∙ t)
-        ∙ map-map (afterCancelEntry c) entryNow bs
-        ∙ map-ext (λ s. afterCancelEntry c (entryNow s)) (λ s. entryNow (afterCancel c s)) bs (after-cancel-entry c)
-        ∙ sym (map-map entryNow (afterCancel c) bs)
+    ∙ ap (λ (x : List Entry). x ++ entry c 4 ∷ []) (records-cancelled c l ∙ ap (cancelNamed c) t ∙ cancels-now c bs)
+    ∙ sym (map-append entryNow (cancelFitting c bs) (standing c cancelling ∷ []))
+    ∙ ap (map entryNow) (sym (turn-cancel bs c y))
 
 -- ════ an original
 
@@ -194,7 +156,7 @@ code-at-turn false = refl
 pub state-at-turn : (l : List Entry) (bs : List Standing) (b : Bill) → Stores l bs → stateOf l b ≡ code (atTurn bs b)
 unfolding stateOf isHeldAtTurn
 state-at-turn l bs b t =
-    ap (λ (x : Bool). cond (isPeriod b && x) 2 1) (any-overlaps l bs b t) ∙ code-at-turn (isPeriod b && any (sharesSiteDay b) (livePeriods bs))
+    ap (λ (x : Bool). cond (isPeriod b && x) 2 1) (overlap-found l b ∙ any-overlaps l bs b t) ∙ code-at-turn (isPeriod b && any (sharesSiteDay b) (livePeriods bs))
 
 record-one : (b : Bill) (s : Status) → filter isRecord (entry b (code s) ∷ []) ≡ entry b (code s) ∷ []
 record-one b live = refl
@@ -202,42 +164,42 @@ record-one b held = refl
 record-one b cancelled = refl
 record-one b cancelling = refl
 
-stores-original : (l : List Entry) (bs : List Standing) (b : Bill) → Stores l bs → Stores (l ++ entry b (stateOf l b) ∷ []) (bs ++ standing b (atTurn bs b) ∷ [])
-stores-original l bs b t =
-    ap (λ (n : ℕ). filter isRecord (l ++ entry b n ∷ [])) (state-at-turn l bs b t)
+-- its entry is that of the record with what it is at its turn
+pub original-at-turn : (l : List Entry) (bs : List Standing) (b : Bill) → Stores l bs → original l b ≡ entryNow (standing b (atTurn bs b))
+original-at-turn l bs b t = ap (entry b) (state-at-turn l bs b t)
+
+stores-original : (l : List Entry) (bs : List Standing) (b : Bill) → b .cancel ≡ false → Stores l bs → Stores (l ++ original l b ∷ []) (turn bs b)
+stores-original l bs b o t =
+    ap (λ (e : Entry). filter isRecord (l ++ e ∷ [])) (original-at-turn l bs b t)
     ∙ filter-append isRecord l (entry b (code (atTurn bs b)) ∷ [])
     ∙ ap (λ (x : List Entry). filter isRecord l ++ x) (record-one b (atTurn bs b))
     ∙ ap (λ (x : List Entry). x ++ entry b (code (atTurn bs b)) ∷ []) t
     ∙ sym (map-append entryNow bs (standing b (atTurn bs b) ∷ []))
+    ∙ ap (map entryNow) (sym (turn-original bs b o))
 
 -- ════ a file
 
-stores-cancels : (l : List Entry) (bs : List Standing) (cs rest : List Bill) → T (all (λ b. b .cancel) cs) → Once (bills bs ++ (cs ++ rest)) → Stores l bs
-    → Stores (bookCancels l cs) (turns bs cs)
-stores-cancels l bs [] rest a o t = t
-stores-cancels l bs (c ∷ cs) rest a o t =
+stores-cancels : (l : List Entry) (bs : List Standing) (cs : List Bill) → T (all (λ b. b .cancel) cs) → Stores l bs → Stores (bookCancels l cs) (turns bs cs)
+stores-cancels l bs [] a t = t
+stores-cancels l bs (c ∷ cs) a t =
     let h = both (c .cancel) (all (λ b. b .cancel) cs) a in
-    let l′ = cancelNamed c l ++ entry c 4 ∷ [] in
-    stores-cancels l′ (turn bs c) cs rest (h .1) (once-turn bs c (cs ++ rest) o)
-    (subst⁻¹ (Stores l′) (turn-cancel bs c (is-true (c .cancel) (h .0))) (stores-cancel l bs c (once-left (bills bs) (c ∷ (cs ++ rest)) o) t))
+    stores-cancels (cancelNamed c l ++ entry c 4 ∷ []) (turn bs c) cs (h .1) (stores-cancel l bs c (is-true (c .cancel) (h .0)) t)
 
 stores-originals : (l : List Entry) (bs : List Standing) (os : List Bill) → T (all (λ b. not (b .cancel)) os) → Stores l bs
     → Stores (bookOriginals l os) (turns bs os)
 stores-originals l bs [] a t = t
 stores-originals l bs (b ∷ os) a t =
     let h = both (not (b .cancel)) (all (λ b. not (b .cancel)) os) a in
-    let l′ = l ++ entry b (stateOf l b) ∷ [] in
-    stores-originals l′ (turn bs b) os (h .1) (subst⁻¹ (Stores l′) (turn-original bs b (is-false (b .cancel) (h .0))) (stores-original l bs b t))
+    stores-originals (l ++ original l b ∷ []) (turn bs b) os (h .1) (stores-original l bs b (is-false (b .cancel) (h .0)) t)
 
 stores-file-entry : (l : List Entry) (bs : List Standing) (file : BillFile) → Stores l bs → Stores (l ++ fileEntry file ∷ []) bs
 stores-file-entry l bs file t = filter-append isRecord l (fileEntry file ∷ []) ∙ append-nil (filter isRecord l) ∙ t
 
-pub stores-booked : (l : List Entry) (bs : List Standing) (file : BillFile) → Once (bills bs ++ (cancels file ++ originals file)) → Stores l bs
-    → Stores (booked l file) (turns bs (cancels file ++ originals file))
-stores-booked l bs file o t =
+pub stores-booked : (l : List Entry) (bs : List Standing) (file : BillFile) → Stores l bs → Stores (booked l file) (turns bs (cancels file ++ originals file))
+stores-booked l bs file t =
     rw turns-append
     (stores-originals (bookCancels (l ++ fileEntry file ∷ []) (cancels file)) (turns bs (cancels file)) (originals file) (all-filter (λ b. not (b .cancel)) (file .bills))
-    (stores-cancels (l ++ fileEntry file ∷ []) bs (cancels file) (originals file) (all-filter (λ b. b .cancel) (file .bills)) o (stores-file-entry l bs file t)))
+    (stores-cancels (l ++ fileEntry file ∷ []) bs (cancels file) (all-filter (λ b. b .cancel) (file .bills)) (stores-file-entry l bs file t)))
 
 -- ════ the entries in a state are those of the booked records that have the status with that code
 

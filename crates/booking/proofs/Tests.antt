@@ -1,109 +1,60 @@
 -- What the tests of an accepted file say of the booked records: its cancels name live or held ones with opposite amounts, and no key comes twice.
 -- Assumes nothing.
 use mathlib.Core.Path.{_≡_, refl, sym, ap, _∙_}
-use mathlib.Core.Bool.{Bool, true, false, not, _&&_, _||_, cond, and-assoc, false≢true}
-use mathlib.Core.List.{List, [], _∷_, _++_, map, map-map, append-nil}
+use mathlib.Core.Bool.{Bool, true, false, not, _&&_, cond, false≢true}
+use mathlib.Core.Option.{some}
+use mathlib.Core.List.{List, [], _∷_, _++_, map}
 use Prim.Native.Nat.{ℕ, suc, _≤_}
 use native.Mathlib.Nat.{le-trans, le-of-eq}
 use native.Mathlib.Omega.{arith}
-use lib.Dec.{T, eqb}
+use lib.Dec.{T}
 use Rattle.lists.specs.Selections.{filter, any, all, count, distinct}
-use Rattle.lists.proofs.Selections.{is-true, both, is-false, cases, count-map, filter-map, any-map, map-ext, filter-append, filter-ext, filter-under, any-ext, any-filter, filter-filter, count-append, count-split, count-none, count-filter-le, distinct-count}
+use Rattle.lists.proofs.Selections.{is-true, both, is-false, cases, count-map, count-append, count-split, count-none, count-filter-le, distinct-count}
 use Rattle.validation.specs.Accepted.{Bill, BillFile}
 use Rattle.entries.specs.declared.Entry.{Entry}
-use Rattle.entries.specs.Entries.{inState}
-use Rattle.soundness.specs.Sound.{opposite}
-use Rattle.booking.specs.Booking.{cancels, originals, entry, isLiveOrHeld, namesEntry, cancelNamed, isStored}
-use Rattle.booking.specs.Passes.{Key, sameKey, keyOf, entryKey, keys, AllNamed, Passes}
-use Rattle.booking.specs.Guarantee.{fits, Status, live, held, cancelled, cancelling, isLiveStatus, isHeldStatus, Standing, standing, afterCancel, turn}
-use Rattle.booking.proofs.Turns.{turn-cancel, bills, Once, has, same-key, key-same, once-left, once-turn}
-use Rattle.booking.proofs.Stored.{code, entryNow, isRecord, Stores, file-state, fitsEntry, names-fits-entry, fits-entry, names-entry-once, afterCancelEntry, cancel-all, after-cancel-entry}
-use Rattle.booking.proofs.Opposites.{opposes, opposes-entry}
-use Rattle.booking.proofs.Named.{isUncancelled, uncancelled-drops, HasOpposite, AllHaveOpposites}
+use Rattle.booking.specs.Booking.{cancels, originals, entry, namesEntry, namedEntry, cancelNamed, isStored}
+use Rattle.booking.specs.Passes.{Key, sameKey, keyOf, entryKey, keys, isOpposed, AllNamed, Passes}
+use Rattle.booking.specs.Guarantee.{fits, Standing, isUncancelled, turn}
+use Rattle.booking.proofs.Turns.{bills, Once, has, same-key, key-same, namedStanding}
+use Rattle.booking.proofs.Stored.{code, entryNow, isRecord, Stores, names-now, names-record, stores-cancel}
+use Rattle.booking.proofs.Opposites.{opposes-entry}
+use Rattle.booking.proofs.Named.{isOpposing, HasOpposite, AllHaveOpposites}
+use Rattle.booking.proofs.KeptNames.{all-named-append}
 
 -- ════ tests 39 and 40
 
--- the entries that are live or held are those of the records that are
-abbrev pub StoresUncancelled : List Entry → List Standing → Type 0
-StoresUncancelled l bs = filter isLiveOrHeld l ≡ map entryNow (filter isUncancelled bs)
-
-uncancelled-code : (s : Status) → (eqb (code s) 1 || eqb (code s) 2) ≡ (isLiveStatus s || isHeldStatus s)
-uncancelled-code live = refl
-uncancelled-code held = refl
-uncancelled-code cancelled = refl
-uncancelled-code cancelling = refl
-
-no-file-uncancelled : (e : Entry) → isRecord e ≡ false → isLiveOrHeld e ≡ false
-no-file-uncancelled e h = rw (file-state e h)
-
-pub stores-uncancelled : (l : List Entry) (bs : List Standing) → Stores l bs → StoresUncancelled l bs
-stores-uncancelled l bs t =
-    sym (filter-under isLiveOrHeld isRecord l no-file-uncancelled)
-    ∙ ap (filter isLiveOrHeld) t
-    ∙ filter-map isLiveOrHeld entryNow bs
-    ∙ ap (map entryNow) (filter-ext (λ s. isLiveOrHeld (entryNow s)) isUncancelled bs (λ s. uncancelled-code (s .status)))
-
--- a cancel leaves those that it doesn't fit
-entry-drops : (c : Bill) (e : Entry) → isLiveOrHeld (afterCancelEntry c e) ≡ (isLiveOrHeld e && not (fitsEntry c e))
-entry-drops c e = ap (λ (x : Bool). isLiveOrHeld (cond x (inState e 3) e)) (names-fits-entry c e) ∙ go (isLiveOrHeld e) (fitsEntry c e) refl
+-- the earliest entry that a cancel names is that of the earliest record
+named-record : (c : Bill) (l : List Entry) → namedEntry c (filter isRecord l) ≡ namedEntry c l
+named-record c [] = refl
+named-record c (e ∷ l) = cases (namesEntry c e)
+    (λ n. rw (n, names-record c e n) (rw n))
+    (λ n. rw n (go n (isRecord e) (named-record c l)))
   where
-    go : (x y : Bool) → isLiveOrHeld e ≡ x → isLiveOrHeld (cond (x && y) (inState e 3) e) ≡ (x && not y)
-    go true true h = refl
-    go true false h = h
-    go false y h = h
+    go : namesEntry c e ≡ false → (x : Bool) → namedEntry c (filter isRecord l) ≡ namedEntry c l → namedEntry c (cond x (e ∷ filter isRecord l) (filter isRecord l)) ≡ namedEntry c l
+    go n true h = rw n h
+    go n false h = h
 
-names-uncancelled : (c : Bill) (e : Entry) → isLiveOrHeld e ≡ false → namesEntry c e ≡ false
-names-uncancelled c e h = names-fits-entry c e ∙ ap (λ (x : Bool). x && fitsEntry c e) h
+opposed-now : (c : Bill) (bs : List Standing) → isOpposed c (namedEntry c (map entryNow bs)) ≡ isOpposing c (namedStanding c bs)
+opposed-now c [] = refl
+opposed-now c (s ∷ bs) =
+    ap (λ (x : Bool). isOpposed c (cond x (some (entryNow s)) (namedEntry c (map entryNow bs)))) (names-now c s)
+    ∙ go (isUncancelled s && fits c (s .bill)) (opposed-now c bs)
+  where
+    go : (x : Bool) → isOpposed c (namedEntry c (map entryNow bs)) ≡ isOpposing c (namedStanding c bs)
+        → isOpposed c (cond x (some (entryNow s)) (namedEntry c (map entryNow bs))) ≡ isOpposing c (cond x (some s) (namedStanding c bs))
+    go true h = opposes-entry c (s .bill) (code (s .status))
+    go false h = h
 
-once-filter : (chosen : Standing → Bool) (bs : List Standing) → Once (bills bs) → Once (bills (filter chosen bs))
-once-filter chosen bs o k =
-    le-trans (le-of-eq (count-map (has k) (λ s. s .bill) (filter chosen bs)))
-    (le-trans (count-filter-le (λ s. has k (s .bill)) chosen bs) (le-trans (le-of-eq (sym (count-map (has k) (λ s. s .bill) bs))) (o k)))
+has-opposite : (l : List Entry) (bs : List Standing) (c : Bill) → Stores l bs → isOpposed c (namedEntry c l) ≡ true → HasOpposite bs c
+has-opposite l bs c t named = sym (opposed-now c bs) ∙ ap (λ (m : List Entry). isOpposed c (namedEntry c m)) (sym t) ∙ ap (isOpposed c) (named-record c l) ∙ named
 
-uncancelled-cancel : (l : List Entry) (bs : List Standing) (c : Bill) → c .cancel ≡ true → Once (bills bs) → StoresUncancelled l bs
-    → StoresUncancelled (cancelNamed c l) (turn bs c)
-uncancelled-cancel l bs c e o t =
-    ap (filter isLiveOrHeld) (cancel-all c l (names-entry-once c l isLiveOrHeld (filter isUncancelled bs) (names-uncancelled c) t (once-filter isUncancelled bs o)))
-    ∙ filter-map isLiveOrHeld (afterCancelEntry c) l
-    ∙ ap (map (afterCancelEntry c))
-    (filter-ext (λ x. isLiveOrHeld (afterCancelEntry c x)) (λ x. isLiveOrHeld x && not (fitsEntry c x)) l (entry-drops c)
-    ∙ sym (filter-filter (λ x. not (fitsEntry c x)) isLiveOrHeld l)
-    ∙ ap (filter (λ x. not (fitsEntry c x))) t
-    ∙ filter-map (λ x. not (fitsEntry c x)) entryNow (filter isUncancelled bs)
-    ∙ ap (map entryNow)
-    (filter-ext (λ s. not (fitsEntry c (entryNow s))) (λ s. not (fits c (s .bill))) (filter isUncancelled bs) (λ s. ap not (fits-entry c (s .bill) (code (s .status))))
-    ∙ filter-filter (λ s. not (fits c (s .bill))) isUncancelled bs
-    ∙ filter-ext (λ s. isUncancelled s && not (fits c (s .bill))) (λ s. isUncancelled (afterCancel c s)) bs (λ s. sym (uncancelled-drops c s))))
-    ∙ map-map (afterCancelEntry c) entryNow (filter (λ s. isUncancelled (afterCancel c s)) bs)
-    ∙ map-ext (λ s. afterCancelEntry c (entryNow s)) (λ s. entryNow (afterCancel c s)) (filter (λ s. isUncancelled (afterCancel c s)) bs) (after-cancel-entry c)
-    ∙ sym (map-map entryNow (afterCancel c) (filter (λ s. isUncancelled (afterCancel c s)) bs))
-    ∙ ap (map entryNow)
-    (sym (filter-map isUncancelled (afterCancel c) bs)
-    ∙ sym (append-nil (filter isUncancelled (map (afterCancel c) bs)))
-    ∙ sym (filter-append isUncancelled (map (afterCancel c) bs) (standing c cancelling ∷ []))
-    ∙ ap (filter isUncancelled) (sym (turn-cancel bs c e)))
-
-has-opposite : (l : List Entry) (bs : List Standing) (c : Bill) → StoresUncancelled l bs → any (λ e. namesEntry c e && opposite (entry c 4) e) l ≡ true → HasOpposite bs c
-has-opposite l bs c t named =
-    any-map (λ b. fits c b && opposes c b) (λ s. s .bill) (filter isUncancelled bs)
-    ∙ any-ext (λ s. fits c (s .bill) && opposes c (s .bill)) (λ s. fitsEntry c (entryNow s) && opposite (entry c 4) (entryNow s)) (filter isUncancelled bs)
-    (λ s. λ i. sym (fits-entry c (s .bill) (code (s .status))) i && sym (opposes-entry c (s .bill) (code (s .status))) i)
-    ∙ sym (any-map (λ e. fitsEntry c e && opposite (entry c 4) e) entryNow (filter isUncancelled bs))
-    ∙ ap (any (λ e. fitsEntry c e && opposite (entry c 4) e)) (sym t)
-    ∙ any-filter (λ e. fitsEntry c e && opposite (entry c 4) e) isLiveOrHeld l
-    ∙ any-ext (λ e. isLiveOrHeld e && (fitsEntry c e && opposite (entry c 4) e)) (λ e. namesEntry c e && opposite (entry c 4) e) l
-    (λ e.
-    sym (and-assoc (isLiveOrHeld e) (fitsEntry c e) (opposite (entry c 4) e)) ∙ ap (λ (x : Bool). x && opposite (entry c 4) e) (sym (names-fits-entry c e)))
-    ∙ named
-
-pub all-have-opposites : (l : List Entry) (bs : List Standing) (cs rest : List Bill) → T (all (λ b. b .cancel) cs) → Once (bills bs ++ (cs ++ rest))
-    → StoresUncancelled l bs → AllNamed l cs → AllHaveOpposites bs cs
-all-have-opposites l bs [] rest a o t n = tt
-all-have-opposites l bs (c ∷ cs) rest a o t n =
+pub all-have-opposites : (l : List Entry) (bs : List Standing) (cs : List Bill) → T (all (λ b. b .cancel) cs) → Stores l bs → AllNamed l cs → AllHaveOpposites bs cs
+all-have-opposites l bs [] a t n = tt
+all-have-opposites l bs (c ∷ cs) a t n =
     let h = both (c .cancel) (all (λ b. b .cancel) cs) a in (
-      has-opposite l bs c t (is-true (any (λ e. namesEntry c e && opposite (entry c 4) e) l) (n .0)),
-      all-have-opposites (cancelNamed c l) (turn bs c) cs rest (h .1) (once-turn bs c (cs ++ rest) o)
-          (uncancelled-cancel l bs c (is-true (c .cancel) (h .0)) (once-left (bills bs) (c ∷ (cs ++ rest)) o) t) (n .1),
+      has-opposite l bs c t (n .0),
+      all-have-opposites (cancelNamed c l ++ entry c 4 ∷ []) (turn bs c) cs (h .1) (stores-cancel l bs c (is-true (c .cancel) (h .0)) t)
+          (all-named-append (cancelNamed c l) (entry c 4 ∷ []) cs (n .1)),
     )
 
 -- ════ tests 9 and 102

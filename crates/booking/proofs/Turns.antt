@@ -1,27 +1,28 @@
 -- The turns of the booked records: their order, and their senders and Record IDs.
 -- Assumes nothing.
 use mathlib.Core.Path.{_≡_, refl, sym, ap, _∙_, subst}
+use mathlib.Core.Logic.{_⊎_, inl, inr, ⊎-elim}
 use mathlib.Core.Bool.{Bool, true, false, _&&_, cond, false≢true}
 use mathlib.Core.Option.{Option, none, some}
-use mathlib.Core.List.{List, [], _∷_, _++_, map, map-map, append-assoc, append-nil}
+use mathlib.Core.List.{List, [], _∷_, _++_, map, append-assoc, append-nil}
 use Prim.Native.Nat.{ℕ, _≤_}
 use native.Mathlib.Nat.{le-trans}
 use native.Mathlib.Omega.{arith}
 use lib.Dec.{T, eqb, eqb→eq, eqb-refl}
-use Rattle.lists.specs.Selections.{count}
-use Rattle.lists.proofs.Selections.{is-true, from-true, both, cases, map-append, map-ext, count-append, count-mono}
+use Rattle.lists.specs.Selections.{filter, count}
+use Rattle.lists.proofs.Selections.{is-true, from-true, both, cases, and-left, and-right, map-append, filter-append, count-append, count-mono}
 use Rattle.validation.specs.Accepted.{Bill}
 use Rattle.booking.specs.Booking.{orZero, refersTo}
 use Rattle.booking.specs.Passes.{Key, sameKey, keyOf}
-use Rattle.booking.specs.Guarantee.{fits, cancelling, Standing, standing, atTurn, onceNamed, afterCancel, turn, turns}
+use Rattle.booking.specs.Guarantee.{fits, cancelled, cancelling, Standing, standing, atTurn, isUncancelled, cancelFitting, turn, turns}
 
 -- ---- a turn, for a cancel and for an original
 
-pub turn-cancel : (bs : List Standing) (c : Bill) → c .cancel ≡ true → turn bs c ≡ map (afterCancel c) bs ++ standing c cancelling ∷ []
-turn-cancel bs c e = ap (λ (x : Bool). cond x (map (afterCancel c) bs ++ standing c cancelling ∷ []) (bs ++ standing c (atTurn bs c) ∷ [])) e
+pub turn-cancel : (bs : List Standing) (c : Bill) → c .cancel ≡ true → turn bs c ≡ cancelFitting c bs ++ standing c cancelling ∷ []
+turn-cancel bs c e = ap (λ (x : Bool). cond x (cancelFitting c bs ++ standing c cancelling ∷ []) (bs ++ standing c (atTurn bs c) ∷ [])) e
 
 pub turn-original : (bs : List Standing) (b : Bill) → b .cancel ≡ false → turn bs b ≡ bs ++ standing b (atTurn bs b) ∷ []
-turn-original bs b e = ap (λ (x : Bool). cond x (map (afterCancel b) bs ++ standing b cancelling ∷ []) (bs ++ standing b (atTurn bs b) ∷ [])) e
+turn-original bs b e = ap (λ (x : Bool). cond x (cancelFitting b bs ++ standing b cancelling ∷ []) (bs ++ standing b (atTurn bs b) ∷ [])) e
 
 pub turns-append : (bs : List Standing) (xs ys : List Bill) → turns bs (xs ++ ys) ≡ turns (turns bs xs) ys
 turns-append bs [] ys = refl
@@ -32,18 +33,17 @@ turns-append bs (x ∷ xs) ys = turns-append (turn bs x) xs ys
 abbrev pub bills : List Standing → List Bill
 bills bs = map (λ s. s .bill) bs
 
-pub bill-after-cancel : (c : Bill) (s : Standing) → afterCancel c s .bill ≡ s .bill
-bill-after-cancel c s = go (fits c (s .bill))
-  where
-    go : (x : Bool) → cond x (standing (s .bill) (onceNamed (s .status))) s .bill ≡ s .bill
-    go true = refl
-    go false = refl
+pub bills-cancelled : (c : Bill) (bs : List Standing) → bills (cancelFitting c bs) ≡ bills bs
+bills-cancelled c [] = refl
+bills-cancelled c (s ∷ bs) = cases (isUncancelled s && fits c (s .bill))
+    (λ e. rw e)
+    (λ e. rw e (ap (λ (l : List Bill). s .bill ∷ l) (bills-cancelled c bs)))
 
 pub bills-turn : (bs : List Standing) (b : Bill) → bills (turn bs b) ≡ bills bs ++ b ∷ []
 bills-turn bs b = cases (b .cancel)
     (λ e.
-    ap bills (turn-cancel bs b e) ∙ map-append (λ s. s .bill) (map (afterCancel b) bs) (standing b cancelling ∷ [])
-    ∙ ap (λ (l : List Bill). l ++ b ∷ []) (map-map (λ s. s .bill) (afterCancel b) bs ∙ map-ext (λ s. afterCancel b s .bill) (λ s. s .bill) bs (bill-after-cancel b)))
+    ap bills (turn-cancel bs b e) ∙ map-append (λ s. s .bill) (cancelFitting b bs) (standing b cancelling ∷ [])
+    ∙ ap (λ (l : List Bill). l ++ b ∷ []) (bills-cancelled b bs))
     (λ e. ap bills (turn-original bs b e) ∙ map-append (λ s. s .bill) bs (standing b (atTurn bs b) ∷ []))
 
 pub bills-turns : (bs : List Standing) (rest : List Bill) → bills (turns bs rest) ≡ bills bs ++ rest
@@ -104,3 +104,86 @@ once-left xs ys o k = le-trans (omega (arith, count-append (has k) xs ys)) (o k)
 
 pub once-turn : (bs : List Standing) (b : Bill) (rest : List Bill) → Once (bills bs ++ b ∷ rest) → Once (bills (turn bs b) ++ rest)
 once-turn bs b rest o = subst Once (sym (ap (λ (l : List Bill). l ++ rest) (bills-turn bs b) ∙ append-assoc (bills bs) (b ∷ []) rest)) o
+
+-- ---- what a cancel does to the records
+
+-- the earliest record that it fits of those that are live or held
+abbrev pub namedStanding : Bill → List Standing → Option Standing
+namedStanding c [] = none
+namedStanding c (s ∷ bs) = cond (isUncancelled s && fits c (s .bill)) (some s) (namedStanding c bs)
+
+-- that record, and those before and after it, which stay as they are
+pub record Named (c : Bill) (bs : List Standing) : Type 0 where
+  pub before : List Standing
+  pub at : Standing
+  pub after : List Standing
+  pub stands : bs ≡ before ++ at ∷ after
+  pub leaves : cancelFitting c bs ≡ before ++ standing (at .bill) cancelled ∷ after
+  pub named : namedStanding c bs ≡ some at
+  pub uncancelled : isUncancelled at ≡ true
+  pub fitting : fits c (at .bill) ≡ true
+
+pub record NoneNamed (c : Bill) (bs : List Standing) : Type 0 where
+  pub leaves : cancelFitting c bs ≡ bs
+  pub named : namedStanding c bs ≡ none
+
+pub named-or-none : (c : Bill) (bs : List Standing) → Named c bs ⊎ NoneNamed c bs
+named-or-none c [] = inr (record { leaves = refl; named = refl })
+named-or-none c (s ∷ bs) = cases (isUncancelled s && fits c (s .bill))
+    (λ e. inl (record {
+      before = [];
+      at = s;
+      after = bs;
+      stands = refl;
+      leaves = rw e;
+      named = rw e;
+      uncancelled = and-left (isUncancelled s) (fits c (s .bill)) e;
+      fitting = and-right (isUncancelled s) (fits c (s .bill)) e;
+    }))
+    (λ e. ⊎-elim (λ (n : Named c bs). inl (later e n)) (λ (n : NoneNamed c bs). inr (record { leaves = rw e (ap (λ (l : List Standing). s ∷ l) (n .leaves)); named = rw e (n .named) })) (named-or-none c bs))
+  where
+    later : (isUncancelled s && fits c (s .bill)) ≡ false → Named c bs → Named c (s ∷ bs)
+    later e n =
+        record {
+          before = s ∷ (n .before);
+          at = n .at;
+          after = n .after;
+          stands = ap (λ (l : List Standing). s ∷ l) (n .stands);
+          leaves = rw e (ap (λ (l : List Standing). s ∷ l) (n .leaves));
+          named = rw e (n .named);
+          uncancelled = n .uncancelled;
+          fitting = n .fitting;
+        }
+
+-- a selection that no cancelled record is in loses that record and no other
+module _ (c : Bill) (chosen : Standing → Bool) (drops : (b : Bill) → chosen (standing b cancelled) ≡ false) (bs : List Standing) (n : Named c bs) where
+  pub chosen-with : chosen (n .at) ≡ true → bills (filter chosen bs) ≡ bills (filter chosen (n .before)) ++ n .at .bill ∷ bills (filter chosen (n .after))
+  chosen-with e =
+      ap (λ (l : List Standing). bills (filter chosen l)) (n .stands)
+      ∙ ap bills (filter-append chosen (n .before) (n .at ∷ (n .after)))
+      ∙ map-append (λ s. s .bill) (filter chosen (n .before)) (filter chosen (n .at ∷ (n .after)))
+      ∙ ap (λ (x : Bool). bills (filter chosen (n .before)) ++ bills (cond x (n .at ∷ filter chosen (n .after)) (filter chosen (n .after)))) e
+
+  pub chosen-same : chosen (n .at) ≡ false → bills (filter chosen bs) ≡ bills (filter chosen (n .before)) ++ bills (filter chosen (n .after))
+  chosen-same e =
+      ap (λ (l : List Standing). bills (filter chosen l)) (n .stands)
+      ∙ ap bills (filter-append chosen (n .before) (n .at ∷ (n .after)))
+      ∙ map-append (λ s. s .bill) (filter chosen (n .before)) (filter chosen (n .at ∷ (n .after)))
+      ∙ ap (λ (x : Bool). bills (filter chosen (n .before)) ++ bills (cond x (n .at ∷ filter chosen (n .after)) (filter chosen (n .after)))) e
+
+  pub chosen-left : bills (filter chosen (cancelFitting c bs)) ≡ bills (filter chosen (n .before)) ++ bills (filter chosen (n .after))
+  chosen-left =
+      let gone = standing (n .at .bill) cancelled in
+      ap (λ (l : List Standing). bills (filter chosen l)) (n .leaves)
+      ∙ ap bills (filter-append chosen (n .before) (gone ∷ (n .after)))
+      ∙ map-append (λ s. s .bill) (filter chosen (n .before)) (filter chosen (gone ∷ (n .after)))
+      ∙ ap (λ (x : Bool). bills (filter chosen (n .before)) ++ bills (cond x (gone ∷ filter chosen (n .after)) (filter chosen (n .after)))) (drops (n .at .bill))
+
+-- the cancel itself, whose record is appended, isn't chosen
+pub chosen-after-cancel : (c : Bill) (chosen : Standing → Bool) → chosen (standing c cancelling) ≡ false → (bs : List Standing) → c .cancel ≡ true
+    → bills (filter chosen (turn bs c)) ≡ bills (filter chosen (cancelFitting c bs))
+chosen-after-cancel c chosen e bs y =
+    ap (λ (l : List Standing). bills (filter chosen l)) (turn-cancel bs c y)
+    ∙ ap bills (filter-append chosen (cancelFitting c bs) (standing c cancelling ∷ [])
+    ∙ ap (λ (x : Bool). filter chosen (cancelFitting c bs) ++ cond x (standing c cancelling ∷ []) []) e
+    ∙ append-nil (filter chosen (cancelFitting c bs)))

@@ -4,15 +4,16 @@ use Prim.Native.Nat.{ℕ, suc, _+_}
 use mathlib.Core.Path.{_≡_}
 use mathlib.Core.Bool.{Bool, true, false, not, _&&_, _||_, cond}
 use mathlib.Core.Option.{Option, none, some}
-use mathlib.Core.List.{List, [], _∷_, _++_}
+use mathlib.Core.List.{List, [], _∷_, _++_, map}
 use lib.Dec.{eqb, ltb}
 use lib.IntN.{pos}
 use lib.ListN.{length, getD, take, drop}
+use Rattle.lists.specs.First.{firstWhere}
 use Rattle.lists.specs.Selections.{filter, any, count}
 use Rattle.calendar.specs.Periods.{sharesDay}
 use Rattle.text.specs.Text.{linesOf}
 use Rattle.refusals.specs.declared.Outcome.{Outcome}
-use Rattle.refusals.specs.Check.{house, atLine, firstRefusal, settingsFit, isTooLarge, testRefusals}
+use Rattle.refusals.specs.Check.{atLine, firstRefusal, testsTo12, testsFrom14, settingsFit, isTooLarge}
 use Rattle.validation.specs.Accepted.{Bill, BillFile, billFile}
 use Rattle.entries.specs.declared.Entry.{Entry}
 use Rattle.entries.specs.Entries.{isLive, isHeld, isPeriod, period, inState}
@@ -92,16 +93,24 @@ abbrev pub cancelNamed : Bill → List Entry → List Entry
 cancelNamed c [] = []
 cancelNamed c (e ∷ l) = cond (namesEntry c e) (inState e 3 ∷ l) (e ∷ cancelNamed c l)
 
--- ════ the state of an original at its turn
+-- ════ an original at its turn
 
 -- a live period of its site that shares a day with it
 unfoldable pub overlaps : Bill → Entry → Bool
 overlaps b e = isLivePeriod e && eqb (e .site) (b .site) && sharesDay (period e) (period (entry b 1))
 
+-- the place of the first such entry, or the number of entries
+unfoldable pub firstOverlap : List Entry → Bill → ℕ
+firstOverlap l b = firstWhere (overlaps b) l
+
 -- "An original period is held if it shares a day with a live period of its site at that moment, whoever sent either; otherwise live. Original one-time
 -- charges are live."
 unfoldable pub stateOf : List Entry → Bill → ℕ
-stateOf l b = cond (isPeriod (entry b 1) && any (overlaps b) l) 2 1
+stateOf l b = cond (isPeriod (entry b 1) && ltb (firstOverlap l b) (length l)) 2 1
+
+-- the entry of an original at its turn: all that booking decides of it is decided here
+abbrev pub original : List Entry → Bill → Entry
+original l b = entry b (stateOf l b)
 
 -- ════ the ledger after an acceptance
 
@@ -111,7 +120,7 @@ bookCancels l (c ∷ cs) = bookCancels (cancelNamed c l ++ entry c 4 ∷ []) cs
 
 abbrev pub bookOriginals : List Entry → List Bill → List Entry
 bookOriginals l [] = l
-bookOriginals l (b ∷ bs) = bookOriginals (l ++ entry b (stateOf l b) ∷ []) bs
+bookOriginals l (b ∷ bs) = bookOriginals (l ++ original l b ∷ []) bs
 
 abbrev pub booked : List Entry → BillFile → List Entry
 booked l file = bookOriginals (bookCancels (l ++ fileEntry file ∷ []) (cancels file)) (originals file)
@@ -150,18 +159,32 @@ isStored l sender id = any (λ e. eqb (e .sender) sender && eqb (e .id) id) l
 unfoldable pub hasStored : List Entry → BillFile → Bool
 hasStored l file = isStored l (file .sender) (file .recordId) || any (λ b. isStored l (b .sender) (b .recordId)) (file .bills)
 
--- a test that answers the place of the first failing TH or OC, or their number
-abbrev pub atBill : ℕ → BillFile → ℕ → Option Outcome
-atBill number file place = atLine number (getD (file .lines) place 0) (ltb place (length (file .bills)))
+-- ════ refusals
 
--- 101: "the used count plus 1 plus the number of TH and OC exceeds the run's length."
-unfoldable pub ledgerRefusals : ℕ → List Entry → BillFile → List (Option Outcome)
+-- document 01's number and line of a refusal, and whether it applies; a house number has line 0
+pub record Refusal : Type 0 where
+  pub number : ℕ
+  pub line : ℕ
+  pub fails : Bool
+
+abbrev pub refusal : ℕ → ℕ → Bool → Refusal
+refusal number line fails = record { number = number; line = line; fails = fails }
+
+-- a test that answers the place of the first failing TH or OC, or their number
+abbrev pub atBill : ℕ → BillFile → ℕ → Refusal
+atBill number file place = refusal number (getD (file .lines) place 0) (ltb place (length (file .bills)))
+
+abbrev pub outcomes : List Refusal → List (Option Outcome)
+outcomes rs = map (λ r. atLine (r .number) (r .line) (r .fails)) rs
+
+-- "Tests that read it, after 38"; 101: "the used count plus 1 plus the number of TH and OC exceeds the run's length."
+unfoldable pub ledgerRefusals : ℕ → List Entry → BillFile → List Refusal
 ledgerRefusals places l file =
-    atLine 8 1 (hasFile l file)
+    refusal 8 1 (hasFile l file)
     ∷ atBill 39 file (firstUnnamed l file)
     ∷ atBill 40 file (firstUnopposed l file)
-    ∷ house 102 (hasStored l file)
-    ∷ house 101 (ltb places (length l + 1 + length (file .bills)))
+    ∷ refusal 102 0 (hasStored l file)
+    ∷ refusal 101 0 (ltb places (length l + 1 + length (file .bills)))
     ∷ []
 
 -- ════ Book
@@ -170,44 +193,79 @@ pub record Settings : Type 0 where
   pub retailer : ℕ
   pub distributors : List ℕ
 
+-- what a call is given, and the run and the used count that it is lent
+pub record Input : Type 0 where
+  pub settings : Settings
+  pub file : List ℕ
+  pub run : List Entry
+  pub used : ℕ
+
+-- what its file says, and the used entries
+abbrev pub fileOf : Input → BillFile
+fileOf i = billFile (linesOf (i .file))
+
+abbrev pub ledgerOf : Input → List Entry
+ledgerOf i = take (i .used) (i .run)
+
+-- "104, 105 (ledger not sound), 103"
+unfoldable pub openingRefusals : Input → List Refusal
+openingRefusals i =
+    refusal 104 0 (not (settingsFit (i .settings .retailer) (i .settings .distributors)))
+    ∷ refusal 105 0 (not (isSound (i .run) (i .used)))
+    ∷ refusal 103 0 (isTooLarge (i .file))
+    ∷ []
+
 -- "Book. 104, 105 (ledger not sound), 103, 2 to 38, 8, 39, 40, 102, 101."
-unfoldable pub bookRefusals : Settings → List ℕ → List Entry → ℕ → List (Option Outcome)
-bookRefusals s file run used =
-    house 104 (not (settingsFit (s .retailer) (s .distributors)))
-    ∷ house 105 (not (isSound run used))
-    ∷ house 103 (isTooLarge file)
-    ∷ (testRefusals (s .retailer) (s .distributors) (linesOf file) ++ ledgerRefusals (length run) (take used run) (billFile (linesOf file)))
+unfoldable pub bookRefusals : Input → List (Option Outcome)
+bookRefusals i =
+    outcomes (openingRefusals i)
+    ++ (testsTo12 (i .settings .retailer) (i .settings .distributors) (linesOf (i .file))
+    ++ (testsFrom14 (linesOf (i .file))
+    ++ outcomes (ledgerRefusals (length (i .run)) (ledgerOf i) (fileOf i))))
 
-unfoldable pub bookRefusal : Settings → List ℕ → List Entry → ℕ → Outcome
-bookRefusal s file run used = firstRefusal (bookRefusals s file run used)
+unfoldable pub bookRefusal : Input → Outcome
+bookRefusal i = firstRefusal (bookRefusals i)
 
-abbrev pub isBooked : Settings → List ℕ → List Entry → ℕ → Bool
-isBooked s file run used = eqb (bookRefusal s file run used .number) 0
+abbrev pub isBooked : Input → Bool
+isBooked i = eqb (bookRefusal i .number) 0
 
 -- the used entries after the file is booked, and those of them that it added
-abbrev pub ledgerAfter : List ℕ → List Entry → ℕ → List Entry
-ledgerAfter file run used = booked (take used run) (billFile (linesOf file))
+abbrev pub ledgerAfter : Input → List Entry
+ledgerAfter i = booked (ledgerOf i) (fileOf i)
 
-abbrev pub addedBy : List ℕ → List Entry → ℕ → List Entry
-addedBy file run used = drop (length (take used run)) (ledgerAfter file run used)
+abbrev pub addedBy : Input → List Entry
+addedBy i = drop (length (ledgerOf i)) (ledgerAfter i)
 
--- "Returns number and line, ledger unchanged; or how many entries were added and how many held."
-unfoldable pub answerOf : Settings → List ℕ → List Entry → ℕ → Answer
-answerOf s file run used =
-    cond (isBooked s file run used)
-    (Accepted (length (addedBy file run used)) (count isHeld (addedBy file run used)))
-    (Refused (bookRefusal s file run used .number) (bookRefusal s file run used .line))
+-- document 01's number and values: "Returns number and line, ledger unchanged; or how many entries were added and how many held."
+pub record Result : Type 0 where
+  pub number : ℕ
+  pub line : ℕ
+  pub added : ℕ
+  pub held : ℕ
 
-unfoldable pub usedAfter : Settings → List ℕ → List Entry → ℕ → ℕ
-usedAfter s file run used = cond (isBooked s file run used) (length (ledgerAfter file run used)) used
+abbrev pub refusedResult : ℕ → ℕ → Result
+refusedResult number line = record { number = number; line = line; added = 0; held = 0 }
+
+abbrev pub acceptedResult : ℕ → ℕ → Result
+acceptedResult added held = record { number = 0; line = 0; added = added; held = held }
+
+-- of each case of the answer; an accepted file has number 0
+abbrev pub resultOf : Answer → Result
+resultOf (Refused number line) = refusedResult number line
+resultOf (Accepted added held) = acceptedResult added held
+
+unfoldable pub bookResult : Input → Result
+bookResult i = cond (isBooked i) (acceptedResult (length (addedBy i)) (count isHeld (addedBy i))) (refusedResult (bookRefusal i .number) (bookRefusal i .line))
+
+unfoldable pub usedAfter : Input → ℕ
+usedAfter i = cond (isBooked i) (length (ledgerAfter i)) (i .used)
 
 -- "places past the new used count keep their content"
-unfoldable pub runAfter : Settings → List ℕ → List Entry → ℕ → List Entry
-runAfter s file run used =
-    cond (isBooked s file run used) (ledgerAfter file run used ++ drop (length (ledgerAfter file run used)) run) run
+unfoldable pub runAfter : Input → List Entry
+runAfter i = cond (isBooked i) (ledgerAfter i ++ drop (length (ledgerAfter i)) (i .run)) (i .run)
 
 -- what a call of Book meets: its answer, and the run and the used count that it leaves
-pub record Booked (s : Settings) (file : List ℕ) (run : List Entry) (used : ℕ) (answer : Answer) (run′ : List Entry) (used′ : ℕ) : Type 0 where
-  pub answers : answer ≡ answerOf s file run used
-  pub leaves-run : run′ ≡ runAfter s file run used
-  pub leaves-used : used′ ≡ usedAfter s file run used
+pub record Booked (i : Input) (answer : Answer) (run′ : List Entry) (used′ : ℕ) : Type 0 where
+  pub answers : resultOf answer ≡ bookResult i
+  pub leaves-run : run′ ≡ runAfter i
+  pub leaves-used : used′ ≡ usedAfter i

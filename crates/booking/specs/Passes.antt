@@ -1,17 +1,18 @@
 -- What an accepted booking tells of the file's records and the ledger: what the guarantee and the ledger's soundness rest on.
--- `accepted-passes` (proofs/Accepting) draws it from Book's answer.
+-- `accepted-passes` (proofs/AcceptedFile) draws it from Book's answer.
 -- Assumes nothing.
 use Prim.Native.Nat.{ℕ, _+_, _≤_}
 use mathlib.Core.Path.{_≡_}
 use mathlib.Core.Bool.{Bool, true, false, not, _&&_}
+use mathlib.Core.Option.{Option, none, some}
 use mathlib.Core.List.{List, [], _∷_, map}
 use lib.Dec.{T, eqb}
 use lib.ListN.{length}
-use Rattle.lists.specs.Selections.{any, all, distinct, sum}
+use Rattle.lists.specs.Selections.{all, distinct, sum}
 use Rattle.validation.specs.Accepted.{Bill, BillFile}
 use Rattle.entries.specs.declared.Entry.{Entry}
 use Rattle.soundness.specs.Sound.{entryFits, opposite}
-use Rattle.booking.specs.Booking.{entry, fileEntry, namesEntry, cancelNamed, cancels, isStored}
+use Rattle.booking.specs.Booking.{entry, fileEntry, namedEntry, cancelNamed, cancels, isStored}
 
 -- a sender and a Record ID
 abbrev pub Key : Type 0
@@ -34,10 +35,15 @@ keys file = (file .sender, file .recordId) ∷ map keyOf (file .bills)
 abbrev pub billFits : Bill → Bool
 billFits b = entryFits (entry b 1) && entryFits (entry b 2) && entryFits (entry b 4)
 
--- each cancel in turn names an entry that has the opposite amounts
+-- the entry that a cancel names, if it names one, has the opposite amounts
+abbrev pub isOpposed : Bill → Option Entry → Bool
+isOpposed c none = false
+isOpposed c (some e) = opposite (entry c 4) e
+
+-- each cancel in turn names an entry, the earliest that fits, and that has the opposite amounts
 abbrev pub AllNamed : List Entry → List Bill → Type 0
 AllNamed l [] = Unit {0}
-AllNamed l (c ∷ cs) = T (any (λ e. namesEntry c e && opposite (entry c 4) e) l) × AllNamed (cancelNamed c l) cs
+AllNamed l (c ∷ cs) = (isOpposed c (namedEntry c l) ≡ true) × AllNamed (cancelNamed c l) cs
 
 pub record Passes (places : ℕ) (l : List Entry) (file : BillFile) : Type 0 where
   pub file-fits : entryFits (fileEntry file) ≡ true

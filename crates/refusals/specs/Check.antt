@@ -143,6 +143,14 @@ columnRefusals retailer distributors lines =
 unfoldable pub testRefusals : ℕ → List ℕ → List (List ℕ) → List (Option Outcome)
 testRefusals retailer distributors lines = formatRefusals lines ++ columnRefusals retailer distributors lines
 
+-- the same list in two parts (proofs/Outcomes, `tests-parts`): Book may put a refusal of its own between them
+unfoldable pub testsTo12 : ℕ → List ℕ → List (List ℕ) → List (Option Outcome)
+testsTo12 retailer distributors lines =
+    formatRefusals lines ++ (orderRefusals lines ++ (identityRefusals lines ++ headerRefusals retailer distributors (lineAt lines 0)))
+
+unfoldable pub testsFrom14 : List (List ℕ) → List (Option Outcome)
+testsFrom14 lines = periodRefusals lines ++ totalRefusals lines
+
 -- ════ Check
 
 -- "Settings are a retailer number and distributor IDs as bytes, four digits each. 104 if the number exceeds 999,999,999 or the ID bytes

@@ -1,4 +1,5 @@
 pub mod Accepted
+pub mod FileIds
 pub mod Limits
 pub mod Lines
 pub mod Passing

@@ -28,6 +28,8 @@ use Rattle.format.specs.Format.{lineAt}
 pub record Bill : Type 0 where
   pub sender : ℕ
   pub commodity : ℕ
+  -- the Record ID of its FH
+  pub fileId : ℕ
   pub kind : ℕ
   pub recordId : ℕ
   pub site : ℕ
@@ -84,6 +86,7 @@ billIn header line =
     record {
       sender = senderIn header;
       commodity = commodityIn header;
+      fileId = idIn header;
       kind = cond (isPeriod line) 2 3;
       recordId = idIn line;
       site = numberOrZero (digitsOf (fieldIn site line));
