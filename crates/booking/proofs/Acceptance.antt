@@ -7,7 +7,7 @@ use mathlib.Core.Bool.{true}
 use mathlib.Core.List.{List}
 use Prim.Native.Nat.{ℕ}
 use lib.ListN.{length}
-use Rattle.validation.specs.Accepted.{BillFile}
+use Rattle.bill_files.specs.Accepted.{BillFile}
 use Rattle.entries.specs.declared.Entry.{Entry}
 use Rattle.soundness.specs.Sound.{isSound}
 use Rattle.soundness.proofs.Meaning.{sound-means}

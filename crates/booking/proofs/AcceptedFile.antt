@@ -15,12 +15,12 @@ use lib.ListN.{length, getD}
 use Rattle.lists.specs.Selections.{filter, any, all, distinct}
 use Rattle.lists.proofs.Selections.{from-true, not-false, and-both, and-right, cases, neither}
 use Rattle.text.specs.Text.{linesOf}
-use Rattle.validation.specs.Accepted.{Bill, BillFile, billFile, billsIn, idIn}
-use Rattle.validation.specs.Fits.{BillFits, FileFits, Distinct}
+use Rattle.bill_files.specs.Accepted.{Bill, BillFile, billFile, billsIn, idIn}
+use Rattle.bill_files.specs.Fits.{BillFits, FileFits, Distinct}
 use Rattle.format.specs.Format.{lineAt}
-use Rattle.validation.specs.Passing.{Passing}
-use Rattle.validation.proofs.Accepted.{bill-ids, bill-fits, file-fits}
-use Rattle.validation.proofs.Trailer.{trailer-total}
+use Rattle.bill_files.specs.Passing.{Passing}
+use Rattle.bill_files.proofs.Accepted.{bill-ids, bill-fits, file-fits}
+use Rattle.bill_files.proofs.Trailer.{trailer-total}
 use Rattle.entries.specs.declared.Entry.{Entry}
 use Rattle.soundness.specs.Sound.{entryFits, opposite}
 use Rattle.soundness.specs.Meaning.{EntryFits}

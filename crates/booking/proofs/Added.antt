@@ -13,7 +13,7 @@ use lib.Dec.{T}
 use lib.ListN.{length, drop, length-append, length-map}
 use Rattle.lists.specs.Selections.{all, count}
 use Rattle.lists.proofs.Selections.{both, cases, count-append, all-append, is-false, length-split}
-use Rattle.validation.specs.Accepted.{Bill, BillFile}
+use Rattle.bill_files.specs.Accepted.{Bill, BillFile}
 use Rattle.entries.specs.declared.Entry.{Entry}
 use Rattle.entries.specs.Entries.{isHeld}
 use Rattle.soundness.specs.Sound.{sameSubject}

@@ -12,12 +12,12 @@ use Rattle.lists.specs.First.{firstWhere}
 use Rattle.lists.specs.Selections.{filter, sum}
 use Rattle.calendar.specs.Periods.{sharesDay}
 use Rattle.refusals.specs.declared.Outcome.{Outcome}
-use Rattle.refusals.specs.Check.{outcome, passed, firstRefusal}
-use Rattle.validation.specs.Accepted.{Bill, BillFile}
+use Rattle.refusals.specs.Refusals.{outcome, passed, firstRefusal}
+use Rattle.bill_files.specs.Accepted.{Bill, BillFile}
 use Rattle.entries.specs.declared.Entry.{Entry}
 use Rattle.entries.specs.Entries.{isLive}
 use Rattle.soundness.specs.Sound.{digitsFit, rangesFit, daysFit, lacksFit, entryFits, opposite}
-use Rattle.booking.specs.Booking.{entry, namesEntry, overlaps, firstOverlap, stateOf, booked, hasFile, firstUnnamed, firstUnopposed, isStored, hasStored, outcomes, ledgerRefusals}
+use Rattle.booking.specs.Booking.{entry, namesEntry, overlaps, firstOverlap, stateOf, booked, hasFile, firstUnnamed, firstUnopposed, isStored, hasStored, ledgerRefusals}
 use Rattle.booking.specs.Guarantee.{fits, sharesSiteDay, live, held, cancelled, cancelling, isHeldAtTurn, archive, liveOf, heldOf, Guarantee}
 use Rattle.booking.proofs.Run.{Accepted}
 use Rattle.booking.proofs.Guarantee.{files-guarantee}
@@ -110,7 +110,7 @@ afterC = booked afterB fileC
 -- ---- what the tests that read the ledger answer
 
 abbrev tested : ℕ → List Entry → BillFile → Outcome
-tested places l file = firstRefusal (outcomes (ledgerRefusals places l file))
+tested places l file = firstRefusal (ledgerRefusals places l file)
 
 record Answers : Type 0 where
   -- "B cancels it and rebills 90.00: accepted"

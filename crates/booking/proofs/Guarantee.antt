@@ -10,7 +10,7 @@ use lib.IntN.{+ℤ-idl}
 use lib.ListN.{length, take}
 use Rattle.lists.specs.Selections.{filter, any, count, sum}
 use Rattle.lists.proofs.Selections.{cases}
-use Rattle.validation.specs.Accepted.{Bill, BillFile}
+use Rattle.bill_files.specs.Accepted.{Bill, BillFile}
 use Rattle.entries.specs.declared.Entry.{Entry}
 use Rattle.booking.specs.Booking.{fileOf, ledgerOf, isBooked, runAfter, usedAfter}
 use Rattle.booking.specs.Passes.{Passes}

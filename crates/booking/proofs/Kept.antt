@@ -14,7 +14,7 @@ use Rattle.lists.specs.Selections.{any, all}
 use Rattle.lists.proofs.Selections.{cases, both, is-true, and-both, all-of-filter}
 use Rattle.calendar.specs.Periods.{sharesDay}
 use Rattle.calendar.proofs.Periods.{shares-day}
-use Rattle.validation.specs.Accepted.{Bill, BillFile}
+use Rattle.bill_files.specs.Accepted.{Bill, BillFile}
 use Rattle.entries.specs.declared.Entry.{Entry}
 use Rattle.entries.specs.Entries.{blank, entryOf, isLive, isPeriod, period, inState}
 use Rattle.soundness.specs.Sound.{entryFits, isLivePeriod}

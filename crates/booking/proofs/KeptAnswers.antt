@@ -6,17 +6,17 @@ use mathlib.Core.Bool.{Bool, true, false, cond}
 use Prim.Native.Nat.{ℕ}
 use native.Mathlib.Omega.{arith}
 use Rattle.refusals.specs.declared.Outcome.{Outcome}
-use Rattle.refusals.proofs.Outcomes.{first-of}
+use Rattle.refusals.specs.Check.{formatRefusals, orderRefusals, identityRefusals, headerRefusals, periodRefusals, siteRefusals, periodTotalRefusals, trailerRefusals, childRefusals, totalRefusals, testsTo12, testsFrom14}
+use Rattle.refusals.proofs.Refusals.{Unlike, first-of, all-unlike}
 use Rattle.soundness.specs.Sound.{isSound}
 use Rattle.booking.specs.Booking.{ledgerRefusals, Input, openingRefusals, bookRefusals, bookRefusal, isBooked, acceptedResult, refusedResult, bookResult}
-use Rattle.booking.proofs.Accepting.{Unlike, book-never}
 
 module _ (i : Input) (sound : isSound (i .run) (i .used) ≡ true) where
   other-refusal : Unlike 105 (bookRefusal i)
-  unfolding bookRefusal openingRefusals ledgerRefusals
+  unfolding bookRefusal bookRefusals openingRefusals ledgerRefusals testsTo12 testsFrom14 formatRefusals orderRefusals identityRefusals headerRefusals periodRefusals totalRefusals siteRefusals periodTotalRefusals trailerRefusals childRefusals
   other-refusal e =
       ⊎-elim (λ p. omega (arith, ap (λ (o : Outcome). o .number) p)) (λ r. r e)
-      (first-of (Unlike 105) (bookRefusals i) (book-never i 105 tt (rw sound tt) tt))
+      (first-of (Unlike 105) (bookRefusals i) (all-unlike 105 (bookRefusals i) (rw sound tt)))
 
   -- so its answer isn't that the ledger isn't sound
   pub never-105 : bookResult i .number ≡ 105 → ⊥

@@ -10,7 +10,7 @@ use lib.Dec.{T, eqb}
 use lib.ListN.{length}
 use Rattle.lists.specs.Selections.{filter, all, count, distinct}
 use Rattle.lists.proofs.Selections.{cases, both, is-false, and-left, and-right, and-both, count-append, count-map, count-split, count-none, distinct-count}
-use Rattle.validation.specs.Accepted.{Bill}
+use Rattle.bill_files.specs.Accepted.{Bill}
 use Rattle.entries.specs.declared.Entry.{Entry}
 use Rattle.entries.specs.Entries.{blank, entryOf}
 use Rattle.booking.specs.Booking.{namesEntry, cancelNamed, isStored}

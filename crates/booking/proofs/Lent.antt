@@ -1,67 +1,65 @@
 -- What a call says of the run that it is lent, for a function that copies only the used places of it.
---     beyond-result, beyond-run, beyond-used      of more than 8,192 places the answer is 105 (104 where the settings don't fit), and nothing changes
---     beyond-same                                 so the answer rests on the settings and the run's length alone
---     same-result                                 and else on the run's length and its used entries alone
+--     unsound-result, unsound-run, unsound-used   of a ledger that isn't sound, as one of more than 8,192 places or with a used count past them, the answer
+--                                                 is 105 (104 where the settings don't fit), and nothing changes
+--     unsound-same                                so the answer rests on the settings alone
+--     same-result                                 in any case it rests on the run's length and its used entries alone
 -- Assumes nothing.
 use mathlib.Core.Path.{_≡_, refl, sym, ap, _∙_}
-use mathlib.Core.Bool.{Bool, true, false, not, cond, true≢false}
-use mathlib.Core.Option.{Option}
-use mathlib.Core.List.{List, _∷_}
-use Prim.Native.Nat.{ℕ, _<_}
+use mathlib.Core.Bool.{Bool, true, false, not, cond}
+use mathlib.Core.List.{List}
+use Prim.Native.Nat.{ℕ}
 use lib.Dec.{eqb}
-use lib.ListN.{length, take, drop}
+use lib.ListN.{length, take}
 use Rattle.lists.specs.Selections.{count}
 use Rattle.refusals.specs.declared.Outcome.{Outcome}
-use Rattle.refusals.specs.Check.{outcome, atLine, firstRefusal, settingsFit}
+use Rattle.refusals.specs.Check.{settingsFit}
+use Rattle.refusals.specs.Refusals.{outcome, firstRefusal}
 use Rattle.entries.specs.declared.Entry.{Entry}
 use Rattle.entries.specs.Entries.{isHeld}
 use Rattle.soundness.specs.Sound.{isSound}
-use Rattle.soundness.proofs.Meaning.{too-long, past-used}
+use Rattle.soundness.proofs.Meaning.{past-used}
 use Rattle.booking.specs.Booking.{Settings, Input, openingRefusals, bookRefusals, bookRefusal, isBooked, addedBy, refusedResult, acceptedResult, bookResult, usedAfter, runAfter}
 use Rattle.booking.proofs.Steps.{refused-leaves}
 
--- ---- more than 8,192 places
+-- ---- a ledger that isn't sound
 abbrev fit : Settings → Bool
 fit s = settingsFit (s .retailer) (s .distributors)
 
-module _ (i : Input) (long : 8192 < length (i .run)) where
-  beyond-refusal : bookRefusal i ≡ cond (fit (i .settings)) (outcome 105 0) (outcome 104 0)
+module _ (i : Input) (unsound : isSound (i .run) (i .used) ≡ false) where
+  unsound-refusal : bookRefusal i ≡ cond (fit (i .settings)) (outcome 105 0) (outcome 104 0)
   unfolding bookRefusal bookRefusals openingRefusals firstRefusal
-  beyond-refusal =
-      go (fit (i .settings)) (isSound (i .run) (i .used)) (too-long (i .run) (i .used) long) (drop 2 (bookRefusals i))
+  unsound-refusal = rw unsound (go (fit (i .settings)) (outcome 105 0))
     where
-      go : (b sound : Bool) → sound ≡ false → (rest : List (Option Outcome))
-          → firstRefusal (atLine 104 0 (not b) ∷ atLine 105 0 (not sound) ∷ rest) ≡ cond b (outcome 105 0) (outcome 104 0)
-      go true true e rest = absurd (true≢false e)
-      go true false e rest = refl
-      go false sound e rest = refl
+      go : (b : Bool) (o : Outcome) → cond (not b) (outcome 104 0) o ≡ cond b o (outcome 104 0)
+      go true o = refl
+      go false o = refl
 
-  beyond-refused : isBooked i ≡ false
-  beyond-refused = ap (λ (o : Outcome). eqb (o .number) 0) beyond-refusal ∙ go (fit (i .settings))
+  unsound-refused : isBooked i ≡ false
+  unsound-refused = ap (λ (o : Outcome). eqb (o .number) 0) unsound-refusal ∙ go (fit (i .settings))
     where
       go : (b : Bool) → eqb (cond b (outcome 105 0) (outcome 104 0) .number) 0 ≡ false
       go true = refl
       go false = refl
 
-  pub beyond-result : bookResult i ≡ cond (fit (i .settings)) (refusedResult 105 0) (refusedResult 104 0)
+  pub unsound-result : bookResult i ≡ cond (fit (i .settings)) (refusedResult 105 0) (refusedResult 104 0)
   unfolding bookResult
-  beyond-result =
-      (λ t. cond (beyond-refused t) (acceptedResult (length (addedBy i)) (count isHeld (addedBy i))) (refusedResult (beyond-refusal t .number) (beyond-refusal t .line)))
+  unsound-result =
+      (λ t. cond (unsound-refused t) (acceptedResult (length (addedBy i)) (count isHeld (addedBy i))) (refusedResult (unsound-refusal t .number) (unsound-refusal t .line)))
       ∙ go (fit (i .settings))
     where
       go : (b : Bool) → refusedResult (cond b (outcome 105 0) (outcome 104 0) .number) (cond b (outcome 105 0) (outcome 104 0) .line) ≡ cond b (refusedResult 105 0) (refusedResult 104 0)
       go true = refl
       go false = refl
 
-  pub beyond-run : runAfter i ≡ i .run
-  beyond-run = refused-leaves i beyond-refused .0
+  pub unsound-run : runAfter i ≡ i .run
+  unsound-run = refused-leaves i unsound-refused .0
 
-  pub beyond-used : usedAfter i ≡ i .used
-  beyond-used = refused-leaves i beyond-refused .1
+  pub unsound-used : usedAfter i ≡ i .used
+  unsound-used = refused-leaves i unsound-refused .1
 
-pub beyond-same : (i j : Input) → i .settings ≡ j .settings → 8192 < length (i .run) → 8192 < length (j .run) → bookResult i ≡ bookResult j
-beyond-same i j same long long′ =
-    beyond-result i long ∙ ap (λ (s : Settings). cond (fit s) (refusedResult 105 0) (refusedResult 104 0)) same ∙ sym (beyond-result j long′)
+pub unsound-same : (i j : Input) → i .settings ≡ j .settings → isSound (i .run) (i .used) ≡ false → isSound (j .run) (j .used) ≡ false → bookResult i ≡ bookResult j
+unsound-same i j same unsound unsound′ =
+    unsound-result i unsound ∙ ap (λ (s : Settings). cond (fit s) (refusedResult 105 0) (refusedResult 104 0)) same ∙ sym (unsound-result j unsound′)
 
 -- ---- what stands past the used places
 module _ (s : Settings) (file : List ℕ) (used : ℕ) where

@@ -9,7 +9,7 @@ use lib.ListN.{length, getD}
 use Rattle.lists.specs.Selections.{filter}
 use Rattle.lists.proofs.Selections.{cases}
 use Rattle.format.specs.Format.{lineAt}
-use Rattle.validation.specs.Accepted.{Bill, isBill, billIn, billsIn, billLines, billFile}
+use Rattle.bill_files.specs.Accepted.{Bill, isBill, billIn, billsIn, billLines, billFile}
 
 -- the k-th of them: the place of its record, its line, and what it says
 record Stands (header : List ℕ) (n : ℕ) (lines : List (List ℕ)) (other : Bill) (k : ℕ) : Type 0 where

@@ -16,7 +16,7 @@ use lib.Dec.{eqb}
 use lib.ListN.{length, getD}
 use Rattle.lists.specs.Selections.{any}
 use Rattle.lists.proofs.Selections.{cases, and-left, and-right, and-both, neither}
-use Rattle.validation.specs.Accepted.{Bill, BillFile}
+use Rattle.bill_files.specs.Accepted.{Bill, BillFile}
 use Rattle.entries.specs.declared.Entry.{Entry}
 use Rattle.entries.specs.Entries.{entryOf, blank, inState}
 use Rattle.soundness.specs.Sound.{opposite}

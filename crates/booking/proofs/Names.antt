@@ -10,7 +10,7 @@ use Prim.Native.Nat.{ℕ, _≤_}
 use native.Mathlib.Omega.{arith}
 use borrow.Author.Tests.{eqb-true, eq-eqb}
 use Rattle.lists.proofs.Selections.{and-left, and-right, and-both}
-use Rattle.validation.specs.Accepted.{Bill}
+use Rattle.bill_files.specs.Accepted.{Bill}
 use Rattle.entries.specs.declared.Entry.{Entry}
 use Rattle.entries.specs.Entries.{isLive, isHeld, inState}
 use Rattle.soundness.specs.Sound.{sameSubject, opposite}

@@ -4,7 +4,7 @@ use mathlib.Core.Path.{_≡_, refl, sym, ap, _∙_}
 use mathlib.Core.Bool.{Bool, true}
 use Prim.Native.Nat.{ℕ}
 use lib.IntN.{ℤ, negℤ, negℤ-negℤ}
-use Rattle.validation.specs.Accepted.{Bill}
+use Rattle.bill_files.specs.Accepted.{Bill}
 use Rattle.soundness.specs.Sound.{opposite}
 use Rattle.soundness.proofs.Meaning.{opposite-means}
 use Rattle.booking.specs.Booking.{entry}

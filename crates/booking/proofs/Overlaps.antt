@@ -10,7 +10,7 @@ use lib.Dec.{ltb}
 use lib.ListN.{length}
 use Rattle.lists.specs.First.{firstWhere}
 use Rattle.lists.specs.Selections.{any}
-use Rattle.validation.specs.Accepted.{Bill}
+use Rattle.bill_files.specs.Accepted.{Bill}
 use Rattle.entries.specs.declared.Entry.{Entry}
 use Rattle.booking.specs.Booking.{overlaps, firstOverlap}
 

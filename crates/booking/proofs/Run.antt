@@ -8,7 +8,7 @@ use native.Mathlib.Omega.{arith}
 use lib.IntN.{ℤ, _+ℤ_, +ℤ-assoc, +ℤ-idr}
 use Rattle.lists.specs.Selections.{sum}
 use Rattle.lists.proofs.Selections.{all-filter, sum-append, sum-split}
-use Rattle.validation.specs.Accepted.{Bill, BillFile}
+use Rattle.bill_files.specs.Accepted.{Bill, BillFile}
 use Rattle.entries.specs.declared.Entry.{Entry}
 use Rattle.booking.specs.Booking.{cancels, originals, booked}
 use Rattle.booking.specs.Passes.{Passes}

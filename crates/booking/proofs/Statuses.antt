@@ -14,7 +14,7 @@ use Rattle.lists.specs.Selections.{filter, any, count, distinct}
 use Rattle.lists.proofs.Selections.{is-true, from-true, eq→eqb, and-left, and-right, and-both, both, is-false, neither, cases, map-append, filter-append, any-ext, distinct-snoc}
 use Rattle.calendar.specs.Periods.{sharesDay}
 use Rattle.calendar.proofs.Periods.{shares-day}
-use Rattle.validation.specs.Accepted.{Bill}
+use Rattle.bill_files.specs.Accepted.{Bill}
 use Rattle.booking.specs.Guarantee.{fits, names, isPeriod, days, sharesSiteDay, HasDay, Status, live, held, cancelled, cancelling, isLiveStatus, isHeldStatus, Standing, standing, livePeriods, isHeldAtTurn, atTurn, isUncancelled, cancelFitting, turn, turns, statusAt}
 use Rattle.booking.proofs.Turns.{turn-cancel, turn-original, turns-append, bills, bills-cancelled, bills-turn, bills-turns, Once, fits-once, once-left, once-turn, Named, NoneNamed, named-or-none, chosen-with, chosen-same, chosen-left, chosen-after-cancel}
 

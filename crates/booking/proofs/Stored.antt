@@ -10,7 +10,7 @@ use Rattle.lists.specs.Selections.{filter, any, all}
 use Rattle.lists.proofs.Selections.{is-true, from-true, both, is-false, not-false, and-left, cases, map-append, filter-map, any-map, map-filter-ext, filter-append, filter-ext, any-ext, filter-under, any-under, any-filter, all-filter}
 use Rattle.calendar.specs.Periods.{sharesDay}
 use Rattle.calendar.proofs.Periods.{shares-day-symmetric}
-use Rattle.validation.specs.Accepted.{Bill, BillFile}
+use Rattle.bill_files.specs.Accepted.{Bill, BillFile}
 use Rattle.entries.specs.declared.Entry.{Entry}
 use Rattle.entries.specs.Entries.{isLive, isHeld, inState}
 use Rattle.soundness.specs.Sound.{sameSubject}

@@ -10,7 +10,7 @@ use native.Mathlib.Omega.{arith}
 use lib.Dec.{T}
 use Rattle.lists.specs.Selections.{filter, any, all, count, distinct}
 use Rattle.lists.proofs.Selections.{is-true, both, is-false, cases, count-map, count-append, count-split, count-none, count-filter-le, distinct-count}
-use Rattle.validation.specs.Accepted.{Bill, BillFile}
+use Rattle.bill_files.specs.Accepted.{Bill, BillFile}
 use Rattle.entries.specs.declared.Entry.{Entry}
 use Rattle.booking.specs.Booking.{cancels, originals, entry, namesEntry, namedEntry, cancelNamed, isStored}
 use Rattle.booking.specs.Passes.{Key, sameKey, keyOf, entryKey, keys, isOpposed, AllNamed, Passes}

@@ -11,7 +11,7 @@ use native.Mathlib.Omega.{arith}
 use lib.Dec.{T, eqb, eqb→eq, eqb-refl}
 use Rattle.lists.specs.Selections.{filter, count}
 use Rattle.lists.proofs.Selections.{is-true, from-true, both, cases, and-left, and-right, map-append, filter-append, count-append, count-mono}
-use Rattle.validation.specs.Accepted.{Bill}
+use Rattle.bill_files.specs.Accepted.{Bill}
 use Rattle.booking.specs.Booking.{orZero, refersTo}
 use Rattle.booking.specs.Passes.{Key, sameKey, keyOf}
 use Rattle.booking.specs.Guarantee.{fits, cancelled, cancelling, Standing, standing, atTurn, isUncancelled, cancelFitting, turn, turns}

@@ -11,8 +11,8 @@ use lib.IntN.{pos, negℤ}
 use lib.ListN.{length, getD}
 use Rattle.text.specs.Text.{linesOf}
 use Rattle.refusals.specs.Check.{settingsFit, isTooLarge}
-use Rattle.validation.specs.Passing.{Passing}
-use Rattle.validation.specs.Accepted.{Bill, BillFile}
+use Rattle.bill_files.specs.Passing.{Passing}
+use Rattle.bill_files.specs.Accepted.{Bill, BillFile}
 use Rattle.entries.specs.declared.Entry.{Entry}
 use Rattle.entries.specs.Entries.{entryOf}
 use Rattle.soundness.specs.Meaning.{Sound}

@@ -4,7 +4,7 @@ use Prim.Native.Nat.{ℕ, suc, _+_}
 use mathlib.Core.Path.{_≡_}
 use mathlib.Core.Bool.{Bool, true, false, not, _&&_, _||_, cond}
 use mathlib.Core.Option.{Option, none, some}
-use mathlib.Core.List.{List, [], _∷_, _++_, map}
+use mathlib.Core.List.{List, [], _∷_, _++_}
 use lib.Dec.{eqb, ltb}
 use lib.IntN.{pos}
 use lib.ListN.{length, getD, take, drop}
@@ -13,8 +13,9 @@ use Rattle.lists.specs.Selections.{filter, any, count}
 use Rattle.calendar.specs.Periods.{sharesDay}
 use Rattle.text.specs.Text.{linesOf}
 use Rattle.refusals.specs.declared.Outcome.{Outcome}
-use Rattle.refusals.specs.Check.{atLine, firstRefusal, testsTo12, testsFrom14, settingsFit, isTooLarge}
-use Rattle.validation.specs.Accepted.{Bill, BillFile, billFile}
+use Rattle.refusals.specs.Check.{testsTo12, testsFrom14, settingsFit, isTooLarge}
+use Rattle.refusals.specs.Refusals.{Refusal, atLine, house, firstRefusal}
+use Rattle.bill_files.specs.Accepted.{Bill, BillFile, billFile}
 use Rattle.entries.specs.declared.Entry.{Entry}
 use Rattle.entries.specs.Entries.{isLive, isHeld, isPeriod, period, inState}
 use Rattle.soundness.specs.Sound.{isSound, sameSubject, opposite, isLivePeriod}
@@ -161,30 +162,18 @@ hasStored l file = isStored l (file .sender) (file .recordId) || any (λ b. isSt
 
 -- ════ refusals
 
--- document 01's number and line of a refusal, and whether it applies; a house number has line 0
-pub record Refusal : Type 0 where
-  pub number : ℕ
-  pub line : ℕ
-  pub fails : Bool
-
-abbrev pub refusal : ℕ → ℕ → Bool → Refusal
-refusal number line fails = record { number = number; line = line; fails = fails }
-
 -- a test that answers the place of the first failing TH or OC, or their number
 abbrev pub atBill : ℕ → BillFile → ℕ → Refusal
-atBill number file place = refusal number (getD (file .lines) place 0) (ltb place (length (file .bills)))
-
-abbrev pub outcomes : List Refusal → List (Option Outcome)
-outcomes rs = map (λ r. atLine (r .number) (r .line) (r .fails)) rs
+atBill number file place = atLine number (getD (file .lines) place 0) (ltb place (length (file .bills)))
 
 -- "Tests that read it, after 38"; 101: "the used count plus 1 plus the number of TH and OC exceeds the run's length."
 unfoldable pub ledgerRefusals : ℕ → List Entry → BillFile → List Refusal
 ledgerRefusals places l file =
-    refusal 8 1 (hasFile l file)
+    atLine 8 1 (hasFile l file)
     ∷ atBill 39 file (firstUnnamed l file)
     ∷ atBill 40 file (firstUnopposed l file)
-    ∷ refusal 102 0 (hasStored l file)
-    ∷ refusal 101 0 (ltb places (length l + 1 + length (file .bills)))
+    ∷ house 102 (hasStored l file)
+    ∷ house 101 (ltb places (length l + 1 + length (file .bills)))
     ∷ []
 
 -- ════ Book
@@ -210,18 +199,18 @@ ledgerOf i = take (i .used) (i .run)
 -- "104, 105 (ledger not sound), 103"
 unfoldable pub openingRefusals : Input → List Refusal
 openingRefusals i =
-    refusal 104 0 (not (settingsFit (i .settings .retailer) (i .settings .distributors)))
-    ∷ refusal 105 0 (not (isSound (i .run) (i .used)))
-    ∷ refusal 103 0 (isTooLarge (i .file))
+    house 104 (not (settingsFit (i .settings .retailer) (i .settings .distributors)))
+    ∷ house 105 (not (isSound (i .run) (i .used)))
+    ∷ house 103 (isTooLarge (i .file))
     ∷ []
 
 -- "Book. 104, 105 (ledger not sound), 103, 2 to 38, 8, 39, 40, 102, 101."
-unfoldable pub bookRefusals : Input → List (Option Outcome)
+unfoldable pub bookRefusals : Input → List Refusal
 bookRefusals i =
-    outcomes (openingRefusals i)
+    openingRefusals i
     ++ (testsTo12 (i .settings .retailer) (i .settings .distributors) (linesOf (i .file))
     ++ (testsFrom14 (linesOf (i .file))
-    ++ outcomes (ledgerRefusals (length (i .run)) (ledgerOf i) (fileOf i))))
+    ++ ledgerRefusals (length (i .run)) (ledgerOf i) (fileOf i)))
 
 unfoldable pub bookRefusal : Input → Outcome
 bookRefusal i = firstRefusal (bookRefusals i)

@@ -13,7 +13,7 @@ use lib.Dec.{eqb}
 use Rattle.lists.specs.Selections.{filter, any, count, sum}
 use Rattle.calendar.specs.declared.Period.{Period}
 use Rattle.calendar.specs.Periods.{sharesDay}
-use Rattle.validation.specs.Accepted.{Bill, BillFile}
+use Rattle.bill_files.specs.Accepted.{Bill, BillFile}
 use Rattle.entries.specs.declared.Entry.{Entry}
 use Rattle.entries.specs.Entries.{isLive, isHeld}
 use Rattle.booking.specs.declared.Answer.{Answer}

@@ -9,7 +9,7 @@ use mathlib.Core.List.{List, [], _∷_, map}
 use lib.Dec.{T, eqb}
 use lib.ListN.{length}
 use Rattle.lists.specs.Selections.{all, distinct, sum}
-use Rattle.validation.specs.Accepted.{Bill, BillFile}
+use Rattle.bill_files.specs.Accepted.{Bill, BillFile}
 use Rattle.entries.specs.declared.Entry.{Entry}
 use Rattle.soundness.specs.Sound.{entryFits, opposite}
 use Rattle.booking.specs.Booking.{entry, fileEntry, namedEntry, cancelNamed, cancels, isStored}

@@ -1,2 +1,4 @@
 pub mod Blocks
+pub mod Meaning
+pub mod Reflected
 pub mod Some

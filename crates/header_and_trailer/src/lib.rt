@@ -5,7 +5,8 @@ ghost use lib.ListN.{length};
 ghost use Rattle.text.specs.Text.{linesOf, part, Placed};
 ghost use Rattle.format.specs.Format.{lineAt};
 ghost use Rattle.headers.specs.Headers.{countsRecords};
-ghost use Rattle.refusals.specs.Check.{firstRefusal, headerRefusals};
+ghost use Rattle.refusals.specs.Check.{headerRefusals};
+ghost use Rattle.refusals.specs.Refusals.{firstRefusal};
 use refusals::Outcome;
 use refusals::refused;
 

@@ -21,6 +21,7 @@ use Rattle.amounts.specs.Amounts.{amountOf, units}
 use Rattle.totals.proofs.Laws.{same-is as amounts-equal, is-same as equal-amounts}
 use Rattle.records.specs.Records.{field}
 use Rattle.headers.specs.Headers.{isNumber, isOurs, isListed, countsRecords}
+use Rattle.headers.specs.Meaning.{Listed}
 use Rattle.headers.specs.Steps.{isGroup}
 
 -- ---- test 11
@@ -39,11 +40,7 @@ module _ (retailer : ℕ) (header : List ℕ) where
 
 -- ---- test 12
 module _ (distributors header : List ℕ) where
-  -- the sender is one of the groups
-  abbrev pub Listed : Type 0
-  Listed = (g : ℕ) × (g < length distributors / 4) × (take 4 (drop (4 * g) distributors) ≡ field 5 header)
-
-  pub listed-is : (isListed distributors header ≡ true → Listed) × (Listed → isListed distributors header ≡ true)
+  pub listed-is : (isListed distributors header ≡ true → Listed distributors header) × (Listed distributors header → isListed distributors header ≡ true)
   unfolding isListed
   listed-is =
       let sender = field 5 header in (

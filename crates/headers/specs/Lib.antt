@@ -1,2 +1,3 @@
 pub mod Headers
+pub mod Meaning
 pub mod Steps

@@ -1,11 +1,9 @@
--- Check: the first refusal of a list of refusals in document 01's order. "Each test is finished over the whole file before the next begins";
--- "The line answered is that of the failing record, counted from 1"; "line 0 for house numbers, from 101"; "0 and 0 when all pass".
+-- Check: the first refusal of a list of refusals in document 01's order. "Each test is finished over the whole file before the next begins".
 -- Assumes nothing.
-use Prim.Native.Nat.{ℕ, _+_, _-_, _%_, _≤_}
+use Prim.Native.Nat.{ℕ, _-_, _%_, _≤_}
 use mathlib.Core.Path.{_≡_}
 use mathlib.Core.List.{List, [], _∷_, _++_, map}
-use mathlib.Core.Bool.{Bool, cond, not, _&&_, _||_}
-use mathlib.Core.Option.{Option, none, some}
+use mathlib.Core.Bool.{Bool, not, _&&_, _||_}
 use lib.ListN.{length, getD}
 use lib.Dec.{eqb, leb, ltb}
 use lib.IntN.{ℤ}
@@ -20,32 +18,7 @@ use Rattle.headers.specs.Headers.{isOurs, isListed, countsRecords}
 use Rattle.periods.specs.Periods.{periodColumns, firstReversed, firstOverlapping}
 use Rattle.totals.specs.Totals.{firstWrongTotal}
 use Rattle.refusals.specs.declared.Outcome.{Outcome}
-
--- ════ refusals
-
--- document 01's number and line; 0 and 0 where nothing is refused
-abbrev pub outcome : ℕ → ℕ → Outcome
-outcome number line = record { number = number; line = line }
-
-abbrev pub passed : Outcome
-passed = outcome 0 0
-
--- a house number, which has line 0
-abbrev pub house : ℕ → Bool → Option Outcome
-house number refuses = cond refuses (some (outcome number 0)) none
-
--- a test that fails at a line
-abbrev pub atLine : ℕ → ℕ → Bool → Option Outcome
-atLine number line fails = cond fails (some (outcome number line)) none
-
--- a test that answers the place of the first failing record of n, or n
-abbrev pub atRecord : ℕ → ℕ → ℕ → Option Outcome
-atRecord number n place = atLine number (place + 1) (ltb place n)
-
-unfoldable pub firstRefusal : List (Option Outcome) → Outcome
-firstRefusal [] = passed
-firstRefusal (none ∷ rest) = firstRefusal rest
-firstRefusal (some refusal ∷ rest) = refusal
+use Rattle.refusals.specs.Refusals.{Refusal, atLine, house, atRecord, firstRefusal}
 
 -- ════ the columns of a file's lines
 
@@ -77,31 +50,31 @@ onesOf low high lines = picked (types lines) (ones (length lines)) low high
 -- ════ the tests, in the order they are run
 
 -- "A file of no bytes fails at line 1": it has no lines
-unfoldable pub formatRefusals : List (List ℕ) → List (Option Outcome)
+unfoldable pub formatRefusals : List (List ℕ) → List Refusal
 formatRefusals lines =
     atLine 2 1 (eqb (length lines) 0)
     ∷ atRecord 2 (length lines) (firstUnformatted lines)
     ∷ atRecord 3 (length lines) (firstUnfit lines)
     ∷ []
 
-unfoldable pub orderRefusals : List (List ℕ) → List (Option Outcome)
+unfoldable pub orderRefusals : List (List ℕ) → List Refusal
 orderRefusals lines =
     atRecord 4 (length lines) (firstMisplaced (types lines))
     ∷ atRecord 5 (length lines) (firstUnfilled lines)
     ∷ atRecord 7 (length lines) (firstMiscoded lines)
     ∷ []
 
-unfoldable pub identityRefusals : List (List ℕ) → List (Option Outcome)
+unfoldable pub identityRefusals : List (List ℕ) → List Refusal
 identityRefusals lines =
     atRecord 9 (length lines) (firstRepeated (numbers recordId lines))
     ∷ atRecord 10 (length lines) (firstUnlike (parentPlaces (types lines)) (numbers parentId lines) (numbers recordId lines))
     ∷ []
 
 -- 11 and 12 read FH, which test 4 puts on line 1
-unfoldable pub headerRefusals : ℕ → List ℕ → List ℕ → List (Option Outcome)
+unfoldable pub headerRefusals : ℕ → List ℕ → List ℕ → List Refusal
 headerRefusals retailer distributors header = atLine 11 1 (not (isOurs retailer header)) ∷ atLine 12 1 (not (isListed distributors header)) ∷ []
 
-unfoldable pub periodRefusals : List (List ℕ) → List (Option Outcome)
+unfoldable pub periodRefusals : List (List ℕ) → List Refusal
 periodRefusals lines =
     atRecord 14 (length lines) (firstReversed (numbers startDay lines) (numbers endDay lines))
     ∷ atRecord 17 (length lines) (firstUnlike (parentsOf DU CH lines) (numbers cancel lines) (numbers cancel lines))
@@ -109,46 +82,46 @@ periodRefusals lines =
     ∷ []
 
 -- 29, 30: by Site ID
-unfoldable pub siteRefusals : List (List ℕ) → List (Option Outcome)
+unfoldable pub siteRefusals : List (List ℕ) → List Refusal
 siteRefusals lines =
     atRecord 29 (length lines) (firstWrongTotal (sitesOf DU DU lines) (sitesOf SH SH lines) (usages lines))
     ∷ atRecord 30 (length lines) (firstWrongTotal (sitesOf CH OC lines) (sitesOf SH SH lines) (charges lines))
     ∷ []
 
 -- 31, 32: by the TH that a record hangs under
-unfoldable pub periodTotalRefusals : List (List ℕ) → List (Option Outcome)
+unfoldable pub periodTotalRefusals : List (List ℕ) → List Refusal
 periodTotalRefusals lines =
     atRecord 31 (length lines) (firstWrongTotal (parentsOf DU DU lines) (placesOf TH TH lines) (usages lines))
     ∷ atRecord 32 (length lines) (firstWrongTotal (parentsOf CH CH lines) (placesOf TH TH lines) (charges lines))
     ∷ []
 
 -- 33 and 34 read FT, which test 4 puts on the last line
-unfoldable pub trailerRefusals : List (List ℕ) → List (Option Outcome)
+unfoldable pub trailerRefusals : List (List ℕ) → List Refusal
 trailerRefusals lines =
     atLine 33 (length lines) (not (countsRecords (lineAt lines (length lines - 1)) (length lines)))
     ∷ atRecord 34 (length lines) (firstWrongTotal (onesOf CH OC lines) (onesOf FT FT lines) (charges lines))
     ∷ []
 
-unfoldable pub childRefusals : List (List ℕ) → List (Option Outcome)
+unfoldable pub childRefusals : List (List ℕ) → List Refusal
 childRefusals lines = atRecord 38 (length lines) (firstUnlike (parentsOf TH OC lines) (numbers site lines) (numbers site lines)) ∷ []
 
 -- in document 01's order
-unfoldable pub totalRefusals : List (List ℕ) → List (Option Outcome)
+unfoldable pub totalRefusals : List (List ℕ) → List Refusal
 totalRefusals lines = siteRefusals lines ++ (periodTotalRefusals lines ++ (trailerRefusals lines ++ childRefusals lines))
 
-unfoldable pub columnRefusals : ℕ → List ℕ → List (List ℕ) → List (Option Outcome)
+unfoldable pub columnRefusals : ℕ → List ℕ → List (List ℕ) → List Refusal
 columnRefusals retailer distributors lines =
     orderRefusals lines ++ (identityRefusals lines ++ (headerRefusals retailer distributors (lineAt lines 0) ++ (periodRefusals lines ++ totalRefusals lines)))
 
-unfoldable pub testRefusals : ℕ → List ℕ → List (List ℕ) → List (Option Outcome)
+unfoldable pub testRefusals : ℕ → List ℕ → List (List ℕ) → List Refusal
 testRefusals retailer distributors lines = formatRefusals lines ++ columnRefusals retailer distributors lines
 
 -- the same list in two parts (proofs/Outcomes, `tests-parts`): Book may put a refusal of its own between them
-unfoldable pub testsTo12 : ℕ → List ℕ → List (List ℕ) → List (Option Outcome)
+unfoldable pub testsTo12 : ℕ → List ℕ → List (List ℕ) → List Refusal
 testsTo12 retailer distributors lines =
     formatRefusals lines ++ (orderRefusals lines ++ (identityRefusals lines ++ headerRefusals retailer distributors (lineAt lines 0)))
 
-unfoldable pub testsFrom14 : List (List ℕ) → List (Option Outcome)
+unfoldable pub testsFrom14 : List (List ℕ) → List Refusal
 testsFrom14 lines = periodRefusals lines ++ totalRefusals lines
 
 -- ════ Check
@@ -164,7 +137,7 @@ unfoldable pub isTooLarge : List ℕ → Bool
 isTooLarge file = ltb 1048576 (length file) || ltb 4096 (length (linesOf file))
 
 -- "104 ..; 103 if the file exceeds its bytes or its lines; then tests 2 to 38"
-abbrev pub checkRefusals : ℕ → List ℕ → List ℕ → List (Option Outcome)
+abbrev pub checkRefusals : ℕ → List ℕ → List ℕ → List Refusal
 checkRefusals retailer distributors file =
     house 104 (not (settingsFit retailer distributors)) ∷ house 103 (isTooLarge file) ∷ testRefusals retailer distributors (linesOf file)
 

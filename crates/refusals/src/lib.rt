@@ -1,6 +1,6 @@
 // What Check answers. The refusals that it chooses from, in document 01's order, are in specs/.
 ghost use mathlib.Core.Path.{_≡_};
-ghost use Rattle.refusals.specs.Check.{outcome};
+ghost use Rattle.refusals.specs.Refusals.{outcome};
 
 // The refusal's number and line; 0 and 0 where nothing is refused.
 pub struct Outcome {

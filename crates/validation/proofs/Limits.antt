@@ -10,7 +10,8 @@ use borrow.Author.Tests.{lt-ltb, le-ltb}
 use lib.ListN.{length}
 use Rattle.text.specs.Text.{linesOf}
 use Rattle.refusals.specs.declared.Outcome.{Outcome}
-use Rattle.refusals.specs.Check.{house, firstRefusal, testRefusals, isTooLarge}
+use Rattle.refusals.specs.Check.{testRefusals, isTooLarge}
+use Rattle.refusals.specs.Refusals.{house, firstRefusal}
 use Rattle.validation.specs.Steps.{Checked}
 use Rattle.refusals.proofs.Stages.{line-fails}
 

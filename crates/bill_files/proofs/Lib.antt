@@ -1,0 +1,6 @@
+pub mod Accepted
+pub mod FileIds
+pub mod Lines
+pub mod Passing
+pub mod Sums
+pub mod Trailer
