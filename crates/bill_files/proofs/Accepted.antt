@@ -39,7 +39,7 @@ use Rattle.records.proofs.Laws.{fields-known}
 use Rattle.columns.specs.Columns.{fieldOf, fieldIn, usageIn, recordId, site, reference, startDay, endDay}
 use Rattle.columns.proofs.Laws.{map-at, number-small, charge-bound, usage-bound}
 use Rattle.format.specs.Format.{lineAt}
-use Rattle.format.proofs.Reflected.{both-of, denied, empty-is}
+use Rattle.lists.proofs.Reflected.{both-of, denied, empty-is}
 use Rattle.bill_files.specs.Accepted.{Bill, numberOrZero, numberOrNone, dayOrZero, senderIn, idIn, isPeriod, isBill, billIn, billsIn, billFile}
 use Rattle.lists.specs.Selections.{filter}
 use Rattle.bill_files.specs.Fits.{BillFits, FileFits, Distinct}

@@ -2,5 +2,6 @@ pub mod Accepted
 pub mod FileIds
 pub mod Lines
 pub mod Passing
+pub mod Places
 pub mod Sums
 pub mod Trailer

@@ -20,7 +20,7 @@ use Rattle.columns.specs.Columns.{numberIn, chargeIn, usageIn, recordId, parent
 use Rattle.groups.specs.Groups.{at, parentPlaces, picked, places, ones}
 use Rattle.groups.proofs.Laws.{parents-length}
 use Rattle.format.specs.Format.{lineAt, firstUnformatted, firstUnfit, firstMisplaced, firstUnfilled, firstMiscoded}
-use Rattle.format.proofs.Reflected.{denied}
+use Rattle.lists.proofs.Reflected.{denied}
 use Rattle.format.specs.Meaning.{Ordered}
 use Rattle.format.proofs.Meaning.{test-2, test-3, test-4, test-5, test-7}
 use Rattle.identity.specs.Identity.{firstRepeated, firstUnlike}

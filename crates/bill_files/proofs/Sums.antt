@@ -23,7 +23,7 @@ use Rattle.columns.proofs.Laws.{map-at, number-held}
 use Rattle.groups.specs.Groups.{at, parentPlace, parentPlaces, picked, places, ones}
 use Rattle.groups.proofs.Laws.{parent-at, place-at, one-at}
 use Rattle.format.specs.Format.{lineAt}
-use Rattle.format.proofs.Reflected.{both-of}
+use Rattle.lists.proofs.Reflected.{both-of}
 use Rattle.headers.specs.Headers.{isNumber}
 use Rattle.totals.specs.Totals.{amountAt, groupSum}
 use Rattle.totals.proofs.Meaning.{TotalsRight}

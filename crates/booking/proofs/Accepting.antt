@@ -26,6 +26,14 @@ use Rattle.entries.specs.declared.Entry.{Entry}
 use Rattle.soundness.specs.Sound.{isSound}
 use Rattle.booking.specs.Booking.{cancelNamed, firstCancel, hasFile, firstUnnamed, firstUnopposed, hasStored, ledgerRefusals, Input, fileOf, ledgerOf, openingRefusals, bookRefusals, bookRefusal, isBooked}
 
+-- ════ the order
+
+-- "Book. 104, 105 (ledger not sound), 103, 2 to 38, 8, 39, 40, 102, 101."
+pub book-order : (i : Input) → numbersOf (bookRefusals i)
+    ≡ 104 ∷ 105 ∷ 103 ∷ 2 ∷ 2 ∷ 3 ∷ 4 ∷ 5 ∷ 7 ∷ 9 ∷ 10 ∷ 11 ∷ 12 ∷ 14 ∷ 17 ∷ 18 ∷ 29 ∷ 30 ∷ 31 ∷ 32 ∷ 33 ∷ 34 ∷ 38 ∷ 8 ∷ 39 ∷ 40 ∷ 102 ∷ 101 ∷ []
+unfolding bookRefusals openingRefusals ledgerRefusals testsTo12 testsFrom14 formatRefusals orderRefusals identityRefusals headerRefusals periodRefusals totalRefusals siteRefusals periodTotalRefusals trailerRefusals childRefusals
+book-order i = refl
+
 -- ════ tests that read the ledger
 
 -- a search that reaches the end finds nothing here, and nothing further on
@@ -35,7 +43,7 @@ search-on false m n = (λ h. (refl, omega arith), λ h. ap suc (h .1))
 
 pub first-cancel-most : (fails : List Entry → Bill → Bool) (l : List Entry) (bs : List Bill) → firstCancel fails l bs ≤ length bs
 first-cancel-most fails l [] = omega arith
-first-cancel-most fails l (b ∷ bs) = go (b .cancel && fails l b) (first-cancel-most fails (cond (b .cancel) (cancelNamed b l) l) bs)
+first-cancel-most fails l (b ∷ bs) = go (b .cancel && fails l b) (first-cancel-most fails _ bs)
   where
     go : {n : ℕ} (t : Bool) → n ≤ length bs → cond t 0 (suc n) ≤ suc (length bs)
     go true h = omega arith
@@ -119,14 +127,8 @@ module _ (i : Input) where
   abbrev Passes : Type 0
   Passes = Passing (i .settings .retailer) (i .settings .distributors) lines
 
-  -- "Book. 104, 105 (ledger not sound), 103, 2 to 38, 8, 39, 40, 102, 101."
-  pub book-order : numbersOf (bookRefusals i)
-      ≡ 104 ∷ 105 ∷ 103 ∷ 2 ∷ 2 ∷ 3 ∷ 4 ∷ 5 ∷ 7 ∷ 9 ∷ 10 ∷ 11 ∷ 12 ∷ 14 ∷ 17 ∷ 18 ∷ 29 ∷ 30 ∷ 31 ∷ 32 ∷ 33 ∷ 34 ∷ 38 ∷ 8 ∷ 39 ∷ 40 ∷ 102 ∷ 101 ∷ []
-  unfolding bookRefusals openingRefusals ledgerRefusals testsTo12 testsFrom14 formatRefusals orderRefusals identityRefusals headerRefusals periodRefusals totalRefusals siteRefusals periodTotalRefusals trailerRefusals childRefusals
-  book-order = refl
-
   numbered : AllOf (Unlike 0) (bookRefusals i)
-  numbered = numbers-unlike 0 (bookRefusals i) (subst (λ (ns : List ℕ). T (all (λ m. not (eqb m 0)) ns)) (sym book-order) tt)
+  numbered = numbers-unlike 0 (bookRefusals i) (subst (λ (ns : List ℕ). T (all (λ m. not (eqb m 0)) ns)) (sym (book-order i)) tt)
 
   accepted-none : (isBooked i ≡ true) ↔ NoneOf (bookRefusals i)
   unfolding bookRefusal

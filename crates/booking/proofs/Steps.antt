@@ -33,7 +33,7 @@ module _ (i : Input) where
   -- it accepts just where nothing is refused
   pub answer-accepted : (answer : Answer) → resultOf answer ≡ bookResult i → isAccepted answer ≡ isBooked i
   unfolding bookResult
-  answer-accepted answer e = ap (λ (r : Result). eqb (r .number) 0) e ∙ go (isBooked i) (length (addedBy i)) (count isHeld (addedBy i)) refl
+  answer-accepted answer e = ap (λ (r : Result). eqb (r .number) 0) e ∙ go (isBooked i) _ _ refl
     where
       go : (x : Bool) (added held : ℕ) → isBooked i ≡ x → eqb (cond x (acceptedResult added held) (refusedResult (bookRefusal i .number) (bookRefusal i .line)) .number) 0 ≡ x
       go true added held e = refl

@@ -13,7 +13,8 @@ use native.Mathlib.Omega.{arith}
 use borrow.Author.Tests.{eqb-true}
 use lib.Dec.{T, eqb, leb, ltb, leb→le, ltb→lt}
 use lib.ListN.{getD}
-use Rattle.lists.proofs.Table.{and-left, and-right, tabulate, tabulate-at}
+use Rattle.lists.specs.Tabulate.{tabulate}
+use Rattle.lists.proofs.Table.{and-left, and-right, tabulate-at}
 use Rattle.codes.specs.declared.RejectionCode.{RejectionCode}
 use Rattle.codes.specs.declared.RejectionCode.the-variants.{Code, NotATest}
 use Rattle.codes.specs.Codes.{rejectionCodes, codeIn, codeOf}

@@ -6,7 +6,7 @@ use mathlib.Core.List.{List}
 use mathlib.Core.Bool.{cond}
 use lib.ListN.{length, getD}
 use lib.Dec.{eqb}
-use Rattle.lists.proofs.Table.{tabulate}
+use Rattle.lists.specs.Tabulate.{tabulate}
 use Rattle.amounts.specs.Amounts.{amountOf, units}
 use Rattle.records.specs.Records.{fieldAmong}
 use Rattle.columns.specs.declared.Row.{Row}

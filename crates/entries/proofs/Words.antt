@@ -16,7 +16,8 @@ use lib.ListN.{length, getD, set, take, length-set}
 use lib.Seq.{getD-set-same, getD-set-other, getD-take, length-take-le, ext-getD}
 use Rattle.entries.specs.declared.Entry.{Entry}
 use Rattle.entries.specs.Entries.{blank, entryOf}
-use Rattle.entries.specs.Words.{entryAt, writes, wordsAt, amountsAt, entriesFrom, entriesOf}
+use Rattle.entries.specs.Words.{RoomFor, entryAt, writes, wordsAt, amountsAt, entriesFrom, entriesOf}
+use Rattle.entries.proofs.Room.{room-fewer}
 
 -- ---- a list after some stores
 module _ {X : Type 0} where
@@ -58,12 +59,12 @@ module _ (words : List ℕ) (amounts : List ℤ) (i : ℕ) (e : Entry) where
   amounts-rise : Rising (i * 2) (i * 2 + 2) (amountsAt i e)
   amounts-rise = omega arith
 
-  module _ (hw : i * 9 + 9 ≤ length words) (ha : i * 2 + 2 ≤ length amounts) where
+  module _ (room : RoomFor (i + 1) words amounts) where
     word : (k : ℕ) → k < 9 → getD (writes words (wordsAt i e)) (getD (wordsAt i e) k (0, 0) .0) 0 ≡ getD (wordsAt i e) k (0, 0) .1
-    word k h = stored words (i * 9) (i * 9 + 9) (wordsAt i e) 0 k (0, 0) words-rise hw h
+    word k h = stored words (i * 9) (i * 9 + 9) (wordsAt i e) 0 k (0, 0) words-rise (omega arith) h
 
     amount : (k : ℕ) → k < 2 → getD (writes amounts (amountsAt i e)) (getD (amountsAt i e) k (0, pos 0) .0) (pos 0) ≡ getD (amountsAt i e) k (0, pos 0) .1
-    amount k h = stored amounts (i * 2) (i * 2 + 2) (amountsAt i e) (pos 0) k (0, pos 0) amounts-rise ha h
+    amount k h = stored amounts (i * 2) (i * 2 + 2) (amountsAt i e) (pos 0) k (0, pos 0) amounts-rise (omega arith) h
 
     pub written-here : entryAt (writes words (wordsAt i e)) (writes amounts (amountsAt i e)) i ≡ e
     written-here = λ t.
@@ -135,14 +136,14 @@ module _ (words : List ℕ) (amounts : List ℤ) where
       (λ i l. getD-take m (entriesOf words amounts n) i blank l ∙ entry-of n i (omega arith)))
 
 -- ---- an entry that is written, in that list
-module _ (words : List ℕ) (amounts : List ℤ) (n i : ℕ) (e : Entry) (hw : n * 9 ≤ length words) (ha : n * 2 ≤ length amounts) (h : i < n) where
+module _ (words : List ℕ) (amounts : List ℤ) (n i : ℕ) (e : Entry) (room : RoomFor n words amounts) (h : i < n) where
   each : (j : ℕ) → j < n → entryOf (set (entriesOf words amounts n) i e) j ≡ entryAt (writes words (wordsAt i e)) (writes amounts (amountsAt i e)) j
   each j l = go (ℕ-discrete j i)
     where
       go : Dec (j ≡ i) → entryOf (set (entriesOf words amounts n) i e) j ≡ entryAt (writes words (wordsAt i e)) (writes amounts (amountsAt i e)) j
       go (yes here) =
           subst (λ (k : ℕ). entryOf (set (entriesOf words amounts n) i e) k ≡ entryAt (writes words (wordsAt i e)) (writes amounts (amountsAt i e)) k) (sym here)
-          (getD-set-same (entriesOf words amounts n) i e blank (omega (arith, length-entries words amounts n)) ∙ sym (written-here words amounts i e (omega arith) (omega arith)))
+          (getD-set-same (entriesOf words amounts n) i e blank (omega (arith, length-entries words amounts n)) ∙ sym (written-here words amounts i e (room-fewer (omega arith) room)))
       go (no other) = getD-set-other (entriesOf words amounts n) i j e blank other ∙ entry-of words amounts n j l ∙ sym (written-elsewhere words amounts i e j other)
 
   pub set-entries : entriesOf (writes words (wordsAt i e)) (writes amounts (amountsAt i e)) n ≡ set (entriesOf words amounts n) i e

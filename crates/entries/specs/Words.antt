@@ -1,10 +1,22 @@
--- How entries stand in two runs of numbers: nine words and two amounts an entry. `entry_at` and `set_entry` alone know this.
+-- How entries stand in two runs of numbers: nine words and two amounts an entry. `entry_at`, `set_entry` and `has_room` alone know this; every other
+-- function asks for `RoomFor` so many entries.
 -- Assumes nothing.
-use Prim.Native.Nat.{ℕ, zero, suc, _+_, _*_}
+use Prim.Native.Nat.{ℕ, zero, suc, _+_, _*_, _/_, _≤_}
 use mathlib.Core.List.{List, [], _∷_}
+use mathlib.Core.Bool.{Bool, _&&_}
 use lib.IntN.{ℤ, pos}
-use lib.ListN.{getD, set}
+use lib.Dec.{leb}
+use lib.ListN.{length, getD, set}
 use Rattle.entries.specs.declared.Entry.{Entry}
+
+-- room for n entries
+pub record RoomFor (n : ℕ) (words : List ℕ) (amounts : List ℤ) : Type 0 where
+  pub in-words : n * 9 ≤ length words
+  pub in-amounts : n * 2 ≤ length amounts
+
+-- whether so many words and amounts have it
+unfoldable pub hasRoom : ℕ → ℕ → ℕ → Bool
+hasRoom n words amounts = leb n (words / 9) && leb n (amounts / 2)
 
 abbrev pub entryAt : List ℕ → List ℤ → ℕ → Entry
 entryAt words amounts i =

@@ -1,9 +1,9 @@
 // The ledger's entries: by value, and in two lent runs of numbers, nine words and two amounts an entry.
 ghost use mathlib.Core.Path.{_≡_};
-ghost use Prim.Native.Nat.{_≤_, _+_, _*_};
+ghost use Prim.Native.Nat.{_+_};
 ghost use lib.ListN.{length};
 ghost use Rattle.entries.specs.Entries.{inState, period};
-ghost use Rattle.entries.specs.Words.{entryAt, writes, wordsAt, amountsAt};
+ghost use Rattle.entries.specs.Words.{RoomFor, hasRoom, entryAt, writes, wordsAt, amountsAt};
 use calendar::Period;
 
 // The fields of document 01, and nothing else.
@@ -42,9 +42,19 @@ impl Entry {
     }
 }
 
+// Whether the words and the amounts have room for n entries.
+pub fn has_room(words: &[u64], amounts: &[i64], n: usize) -> bool
+    ensures { λ r. ⌜ r ≡ hasRoom n (length (now (words .entry))) (length (now (amounts .entry))) ⌝ }
+{
+    if words.len() / 9 < n {
+        return false;
+    }
+    n <= amounts.len() / 2
+}
+
 // The entry at a place of the words.
 pub fn entry_at(words: &[u64], amounts: &[i64], at: usize) -> Entry
-    requires { ⌜ (at * 9 + 9 ≤ length (now words)) × (at * 2 + 2 ≤ length (now amounts)) ⌝ }
+    requires { ⌜ RoomFor (at + 1) (now words) (now amounts) ⌝ }
     ensures { λ r. ⌜ r ≡ entryAt (now (words .entry)) (now (amounts .entry)) at ⌝ }
 {
     let w = at * 9;
@@ -66,7 +76,7 @@ pub fn entry_at(words: &[u64], amounts: &[i64], at: usize) -> Entry
 
 // Writes an entry at a place of the words.
 pub fn set_entry(words: &mut [u64], amounts: &mut [i64], at: usize, e: Entry)
-    requires { ⌜ (at * 9 + 9 ≤ length (now words)) × (at * 2 + 2 ≤ length (now amounts)) ⌝ }
+    requires { ⌜ RoomFor (at + 1) (now words) (now amounts) ⌝ }
     ensures { λ _. ⌜ (now (words .exit) ≡ writes (now (words .entry)) (wordsAt at e)) × (now (amounts .exit) ≡ writes (now (amounts .entry)) (amountsAt at e)) ⌝ }
 {
     let w = at * 9;

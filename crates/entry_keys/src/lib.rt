@@ -3,11 +3,11 @@
 // A function that shows something says so by answering the used count. Any other answer shows nothing: below the used count it is the place of an entry that is likely at fault.
 ghost use mathlib.Core.Path.{_≡_};
 ghost use mathlib.Core.Bool.{false};
-ghost use Prim.Native.Nat.{ℕ, _≤_, _<_, _*_};
+ghost use Prim.Native.Nat.{ℕ, _≤_, _<_};
 ghost use lib.ListN.{length, getD};
 ghost use Rattle.apart.specs.Gathered.{Gathering};
 ghost use Rattle.buckets.specs.Buckets.{Distinct, Indexed};
-ghost use Rattle.entries.specs.Words.{entriesOf};
+ghost use Rattle.entries.specs.Words.{RoomFor, entriesOf};
 ghost use Rattle.lists.specs.Column.{Copied};
 ghost use Rattle.live_periods.specs.LivePeriods.{liveAt, firstDay, lastDay};
 ghost use Rattle.entry_keys.specs.Keys.{keyOf, Keyed, KeysDiffer, stateAt};
@@ -35,7 +35,7 @@ fn copy_entries(
     firsts: &mut [u64],
     lasts: &mut [u64],
 ) -> Copies
-    requires { ⌜ (used * 9 ≤ length (now words)) × (used * 2 ≤ length (now amounts)) × (used ≤ length (now keys)) × (used ≤ length (now states)) ⌝ }
+    requires { ⌜ RoomFor used (now words) (now amounts) × (used ≤ length (now keys)) × (used ≤ length (now states)) ⌝ }
     requires { ⌜ (used ≤ length (now firsts)) × (used ≤ length (now lasts)) ⌝ }
     ensures { λ r. ⌜ (let es = entriesOf (now (words .entry)) (now (amounts .entry)) used in r .place ≡ used → Keyed es used (now (keys .exit)) × Copied (stateAt es) used (now (states .exit)) × Gathering (liveAt es) (firstDay es) (lastDay es) (now (firsts .exit)) (now (lasts .exit)) used (r .live)) ⌝ }
 {
@@ -90,7 +90,7 @@ pub fn index_keys(
     order: &mut [u16],
     sorted: bool,
 ) -> Copies
-    requires { ⌜ (used * 9 ≤ length (now words)) × (used * 2 ≤ length (now amounts)) × (used ≤ length (now keys)) × (used ≤ length (now states)) × (used ≤ length (now order)) ⌝ }
+    requires { ⌜ RoomFor used (now words) (now amounts) × (used ≤ length (now keys)) × (used ≤ length (now states)) × (used ≤ length (now order)) ⌝ }
     requires { ⌜ (used ≤ length (now firsts)) × (used ≤ length (now lasts)) ⌝ }
     requires { ⌜ (0 < length (now heads)) × (length (now heads) ≤ 65536) × (used ≤ length (now links)) × (used ≤ 8192) × ((b : ℕ) → getD (now heads) b 0 ≡ 0) ⌝ }
     ensures { λ r. ⌜ (let es = entriesOf (now (words .entry)) (now (amounts .entry)) used in r .place ≡ used → Keyed es used (now (keys .exit)) × Copied (stateAt es) used (now (states .exit)) × (sorted ≡ false → Indexed (now (keys .exit)) used (now (heads .exit)) (now (links .exit))) × KeysDiffer es used × Gathering (liveAt es) (firstDay es) (lastDay es) (now (firsts .exit)) (now (lasts .exit)) used (r .live)) ⌝ }

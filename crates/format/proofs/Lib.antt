@@ -1,4 +1,3 @@
 pub mod Blocks
 pub mod Meaning
-pub mod Reflected
 pub mod Some

@@ -27,7 +27,7 @@ use Rattle.tables.specs.Tables.{fieldCount, fieldType, isMandatory}
 use Rattle.records.proofs.Laws.{fields-known, field-none}
 use Rattle.format.specs.Meaning.{Formatted, Fitting, Ordered, Filled, Where, Coded}
 use Rattle.format.specs.Format.{lineAt, isEmpty, isPrintable, unformatted, firstUnformatted, unfit, firstUnfit, unfilled, firstUnfilled, misplaced, firstMisplaced, commodityFields, unitFields, cancelFields, exemptionFields, neither, unitOf, miscoded, firstMiscoded}
-use Rattle.format.proofs.Reflected.{none-fails, some-fails, neither-of, not-both, both-of, denied, same-bytes-is, empty-is}
+use Rattle.lists.proofs.Reflected.{none-fails, some-fails, neither-of, not-both, both-of, denied, same-bytes-is, empty-is}
 
 -- ════ 2
 printable-is : (b : ℕ) → (not (isPrintable b) ≡ false) ↔ ((32 ≤ b) × (b ≤ 126))

@@ -1,12 +1,13 @@
--- What Find answers, as the code looks for it: in the words, and up to the used count.
---     Told, find-is           what each answer says of the three tests and the place, and that they give it
+-- The result of Find, as the code looks for it: in the words, and up to the used count.
+--     Told, find-is           what each answer says of the three tests and the place, and that they give its result
 --     place-words             the place, looked for in the words
---     find-words              the answer, by the place among the entries in use
+--     find-words              the result, by the place among the entries in use
 -- Assumes nothing.
 use mathlib.Core.Path.{_≡_, refl, _∙_, ap, subst}
 use mathlib.Core.Logic.{_↔_}
 use mathlib.Core.List.{List}
 use mathlib.Core.Bool.{Bool, true, false, cond}
+use mathlib.Core.Option.{none, some}
 use Prim.Native.Nat.{ℕ}
 use lib.IntN.{ℤ}
 use lib.Dec.{ltb}
@@ -20,26 +21,28 @@ use Rattle.entries.proofs.Words.{length-entries, entry-of}
 use Rattle.soundness.specs.Sound.{isSound}
 use Rattle.ledger.specs.declared.Found.{Found}
 use Rattle.ledger.specs.declared.Found.the-variants as found
-use Rattle.ledger.specs.Ledger.{isAskable, covers, placeOf, findOf}
+use Rattle.ledger.specs.Ledger.{isAskable, covers, placeOf, FindResult, findResultOf, resultOfFound, findResult}
+use Rattle.ledger.proofs.Answers.{found-answer}
 use Rattle.ledger.proofs.SoundLaws.{words-used}
 
--- ---- what Find answers, by its three tests and the place
-abbrev pub answered : Bool → Bool → Bool → ℕ → Found
-answered sound askable somewhere place = cond sound (cond askable (cond somewhere (found.At place) found.None) found.OutOfRange) found.Unsound
+-- ---- the result of Find, by its three tests and the place
+abbrev pub resulted : Bool → Bool → Bool → ℕ → FindResult
+resulted sound askable somewhere place = cond sound (cond askable (findResultOf 0 (cond somewhere (some place) none)) (findResultOf 106 none)) (findResultOf 105 none)
 
+-- what each answer says of them
 abbrev pub Told : Bool → Bool → Bool → ℕ → Found → Type 0
 Told sound askable somewhere place found.Unsound = sound ≡ false
 Told sound askable somewhere place found.OutOfRange = (sound ≡ true) × (askable ≡ false)
 Told sound askable somewhere place found.None = (sound ≡ true) × (askable ≡ true) × (somewhere ≡ false)
 Told sound askable somewhere place (found.At i) = (sound ≡ true) × (askable ≡ true) × (somewhere ≡ true) × (place ≡ i)
 
-told : (sound askable somewhere : Bool) (place : ℕ) → Told sound askable somewhere place (answered sound askable somewhere place)
-told false askable somewhere place = refl
-told true false somewhere place = (refl, refl)
-told true true false place = (refl, refl, refl)
-told true true true place = (refl, refl, refl, refl)
+told : (sound askable somewhere : Bool) (place : ℕ) (r : Found) → resulted sound askable somewhere place ≡ resultOfFound r → Told sound askable somewhere place r
+told false askable somewhere place r e = subst (Told false askable somewhere place) (found-answer found.Unsound r e) refl
+told true false somewhere place r e = subst (Told true false somewhere place) (found-answer found.OutOfRange r e) (refl, refl)
+told true true false place r e = subst (Told true true false place) (found-answer found.None r e) (refl, refl, refl)
+told true true true place r e = subst (Told true true true place) (found-answer (found.At place) r e) (refl, refl, refl, refl)
 
-answers : (sound askable somewhere : Bool) (place : ℕ) (r : Found) → Told sound askable somewhere place r → answered sound askable somewhere place ≡ r
+answers : (sound askable somewhere : Bool) (place : ℕ) (r : Found) → Told sound askable somewhere place r → resulted sound askable somewhere place ≡ resultOfFound r
 answers sound askable somewhere place found.Unsound e = rw e
 answers sound askable somewhere place found.OutOfRange e = rw (e .0, e .1)
 answers sound askable somewhere place found.None e = rw (e .0, e .1, e .2)
@@ -53,13 +56,13 @@ module _ (run : List Entry) (used site day : ℕ) where
   abbrev pub ToldBy : Found → Type 0
   ToldBy r = Told (isSound run used) (isAskable site day) (ltb placeUsed (length (take used run))) placeUsed r
 
-  pub find-is : (r : Found) → (findOf run used site day ≡ r) ↔ ToldBy r
-  unfolding findOf
+  pub find-is : (r : Found) → (findResult run used site day ≡ resultOfFound r) ↔ ToldBy r
+  unfolding findResult
   find-is r =
       let sound = isSound run used in
       let askable = isAskable site day in
       let somewhere = ltb placeUsed (length (take used run)) in
-      (λ e. subst (Told sound askable somewhere placeUsed) e (told sound askable somewhere placeUsed), answers sound askable somewhere placeUsed r)
+      (told sound askable somewhere placeUsed r, answers sound askable somewhere placeUsed r)
 
 -- ---- in the words
 module _ (words : List ℕ) (amounts : List ℤ) (site day : ℕ) where
@@ -75,7 +78,7 @@ module _ (words : List ℕ) (amounts : List ℤ) (site day : ℕ) where
 
   pub find-words : (places used : ℕ) → isSound (entriesOf words amounts places) used ≡ true → (r : Found)
       → (let place = placeOf site day (entriesOf words amounts used) in Told true (isAskable site day) (ltb place used) place r)
-      → findOf (entriesOf words amounts places) used site day ≡ r
+      → findResult (entriesOf words amounts places) used site day ≡ resultOfFound r
   find-words places used sound r is =
       find-is (entriesOf words amounts places) used site day r .1
       (rw (sound, words-used words amounts places used sound, length-entries words amounts used) is)

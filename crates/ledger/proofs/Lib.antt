@@ -1,3 +1,4 @@
+pub mod Answers
 pub mod FindLaws
 pub mod Meaning
 pub mod SoundLaws

@@ -1,23 +1,23 @@
 -- What the functions of the ledger answer to compare/, as numbers.
 -- Assumes nothing.
-use Prim.Native.Nat.{ℕ, suc, _*_}
-use mathlib.Core.Bool.{Bool, cond, _&&_}
+use Prim.Native.Nat.{ℕ, suc, _+_, _*_, _^_}
+use mathlib.Core.Bool.{Bool, cond}
 use mathlib.Core.List.{List}
-use lib.Dec.{eqb, leb}
-use lib.IntN.{ℤ, pos}
+use mathlib.Core.Option.{Option, none, some}
+use lib.Dec.{eqb}
+use lib.IntN.{ℤ}
 use lib.ListN.{length}
+use Rattle.entries.specs.Words.{hasRoom}
+use Rattle.soundness.specs.Room.{readCount}
 use Rattle.ledger.specs.declared.Sums.{Sums}
-use Rattle.ledger.specs.declared.Totals.{Totals}
-use Rattle.ledger.specs.declared.Totals.the-variants as totals
-use Rattle.ledger.specs.declared.Found.{Found}
-use Rattle.ledger.specs.declared.Found.the-variants as found
+use Rattle.ledger.specs.Ledger.{TotalsResult, FindResult}
 
--- so many words and amounts hold 8,192 entries
-unfoldable pub wordsHold : ℕ → ℕ → Bool
-wordsHold words amounts = leb 73728 words && leb 16384 amounts
+-- the words have room for what is read of a ledger
+abbrev pub hasLedgerRoom : ℕ → ℕ → List ℕ → List ℤ → Bool
+hasLedgerRoom places used words amounts = hasRoom (readCount places used) (length words) (length amounts)
 
-abbrev pub ifHeld : {A : Type 0} → List ℕ → List ℤ → A → A → A
-ifHeld words amounts answer other = cond (wordsHold (length words) (length amounts)) answer other
+abbrev pub ifRoom : {A : Type 0} → ℕ → ℕ → List ℕ → List ℤ → A → A → A
+ifRoom places used words amounts answer other = cond (hasLedgerRoom places used words amounts) answer other
 
 abbrev pub soundNumber : Bool → ℕ
 soundNumber sound = cond sound 0 105
@@ -27,13 +27,14 @@ abbrev pub amountOf : Sums → ℕ → ℤ
 amountOf sums which = cond (eqb which 0) (sums .charge .0) (cond (eqb which 1) (sums .kwh .0) (sums .gj .0))
 
 -- of the live entries (state 1) or of the held ones; 0 where there are no totals
-abbrev pub totalIn : Totals → ℕ → ℕ → ℤ
-totalIn totals.Unsound state which = pos 0
-totalIn (totals.Of live held) state which = cond (eqb state 1) (amountOf live which) (amountOf held which)
+abbrev pub totalIn : TotalsResult → ℕ → ℕ → ℤ
+totalIn r state which = cond (eqb state 1) (amountOf (r .live) which) (amountOf (r .held) which)
 
--- the number in the upper 32 bits; in the lower the place and one, or 0 for none
-abbrev pub findAnswer : Found → ℕ
-findAnswer found.Unsound = 105 * 4294967296
-findAnswer found.OutOfRange = 106 * 4294967296
-findAnswer (found.At place) = suc place
-findAnswer found.None = 0
+-- the place and one, or 0 for none
+abbrev pub placeNumber : Option ℕ → ℕ
+placeNumber none = 0
+placeNumber (some place) = suc place
+
+-- the number in the upper 32 bits, the place's in the lower
+abbrev pub findAnswer : FindResult → ℕ
+findAnswer r = r .number * 2 ^ 32 + placeNumber (r .place)

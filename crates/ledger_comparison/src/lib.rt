@@ -1,30 +1,20 @@
-// What the comparison tests and the benchmark call of the ledger, over lent words. Words that hold fewer than 8,192 entries are answered 1.
+// What the comparison tests and the benchmark call of the ledger, over lent words. Words without room for the entries in use are answered 1.
 ghost use mathlib.Core.Path.{_≡_};
 ghost use lib.IntN.{pos};
-ghost use lib.ListN.{length};
 ghost use Rattle.entries.specs.Words.{entriesOf};
 ghost use Rattle.soundness.specs.Sound.{isSound};
-ghost use Rattle.ledger.specs.Ledger.{totalsOf, findOf, totalsNumber};
-ghost use Rattle.ledger_comparison.specs.Answers.{wordsHold, ifHeld, soundNumber, amountOf, totalIn, findAnswer};
+ghost use Rattle.ledger.specs.Ledger.{totalsResult, findResult};
+ghost use Rattle.ledger_comparison.specs.Answers.{ifRoom, soundNumber, amountOf, totalIn, findAnswer};
 use ledger::Found;
 use ledger::Sums;
 use ledger::Totals;
 
-fn words_hold(words: &[u64], amounts: &[i64]) -> bool
-    ensures { λ r. ⌜ r ≡ wordsHold (length (now (words .entry))) (length (now (amounts .entry))) ⌝ }
-{
-    if words.len() < 73728 {
-        return false;
-    }
-    16384 <= amounts.len()
-}
-
 // 0 for a sound ledger, and 105.
 #[no_mangle]
 pub extern "C" fn ledger_sound(words: &[u64], amounts: &[i64], places: usize, used: usize) -> u64
-    ensures { λ r. ⌜ r ≡ ifHeld (now (words .entry)) (now (amounts .entry)) (soundNumber (isSound (entriesOf (now (words .entry)) (now (amounts .entry)) places) used)) 1 ⌝ }
+    ensures { λ r. ⌜ r ≡ ifRoom places used (now (words .entry)) (now (amounts .entry)) (soundNumber (isSound (entriesOf (now (words .entry)) (now (amounts .entry)) places) used)) 1 ⌝ }
 {
-    if !words_hold(words, amounts) {
+    if !entries::has_room(words, amounts, soundness::read_count(places, used)) {
         return 1;
     }
     if soundness_certificate::is_sound(words, amounts, places, used) {
@@ -36,9 +26,9 @@ pub extern "C" fn ledger_sound(words: &[u64], amounts: &[i64], places: usize, us
 // 0 where there are totals, and 105.
 #[no_mangle]
 pub extern "C" fn ledger_totals(words: &[u64], amounts: &[i64], places: usize, used: usize) -> u64
-    ensures { λ r. ⌜ r ≡ ifHeld (now (words .entry)) (now (amounts .entry)) (totalsNumber (totalsOf (entriesOf (now (words .entry)) (now (amounts .entry)) places) used)) 1 ⌝ }
+    ensures { λ r. ⌜ r ≡ ifRoom places used (now (words .entry)) (now (amounts .entry)) (totalsResult (entriesOf (now (words .entry)) (now (amounts .entry)) places) used .number) 1 ⌝ }
 {
-    if !words_hold(words, amounts) {
+    if !entries::has_room(words, amounts, soundness::read_count(places, used)) {
         return 1;
     }
     match ledger::totals_of(words, amounts, places, used) {
@@ -70,9 +60,9 @@ pub extern "C" fn ledger_total(
     state: u64,
     which: u64,
 ) -> i64
-    ensures { λ r. ⌜ r ≡ ifHeld (now (words .entry)) (now (amounts .entry)) (totalIn (totalsOf (entriesOf (now (words .entry)) (now (amounts .entry)) places) used) state which) (pos 0) ⌝ }
+    ensures { λ r. ⌜ r ≡ ifRoom places used (now (words .entry)) (now (amounts .entry)) (totalIn (totalsResult (entriesOf (now (words .entry)) (now (amounts .entry)) places) used) state which) (pos 0) ⌝ }
 {
-    if !words_hold(words, amounts) {
+    if !entries::has_room(words, amounts, soundness::read_count(places, used)) {
         return 0;
     }
     match ledger::totals_of(words, amounts, places, used) {
@@ -97,9 +87,9 @@ pub extern "C" fn ledger_find(
     site: u64,
     day: u64,
 ) -> u64
-    ensures { λ r. ⌜ r ≡ ifHeld (now (words .entry)) (now (amounts .entry)) (findAnswer (findOf (entriesOf (now (words .entry)) (now (amounts .entry)) places) used site day)) 1 ⌝ }
+    ensures { λ r. ⌜ r ≡ ifRoom places used (now (words .entry)) (now (amounts .entry)) (findAnswer (findResult (entriesOf (now (words .entry)) (now (amounts .entry)) places) used site day)) 1 ⌝ }
 {
-    if !words_hold(words, amounts) {
+    if !entries::has_room(words, amounts, soundness::read_count(places, used)) {
         return 1;
     }
     match ledger::find(words, amounts, places, used, site, day) {

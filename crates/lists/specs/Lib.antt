@@ -3,4 +3,5 @@ pub mod Bytes
 pub mod Column
 pub mod First
 pub mod Selections
+pub mod Tabulate
 pub mod Written

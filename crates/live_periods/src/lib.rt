@@ -2,9 +2,10 @@
 // Where the spans gathered do not meet, live periods of a site share no day (proofs/Laws, `live-apart`).
 ghost use mathlib.Core.Path.{_≡_};
 ghost use mathlib.Core.Bool.{cond};
-ghost use Prim.Native.Nat.{_≤_, _<_, _+_, _*_};
+ghost use Prim.Native.Nat.{_≤_, _<_, _+_};
 ghost use lib.ListN.{length, set};
 ghost use Rattle.apart.specs.Gathered.{dayNumber};
+ghost use Rattle.entries.specs.Words.{RoomFor};
 ghost use Rattle.soundness.specs.Sound.{isLivePeriod};
 use entries::Entry;
 
@@ -62,7 +63,7 @@ fn later(a: usize, b: usize) -> usize {
 
 // The place of the live period that has so many others before it; one more than the used count where there is none.
 fn live_place(words: &[u64], amounts: &[i64], used: usize, others: usize) -> usize
-    requires { ⌜ (used * 9 ≤ length (now words)) × (used * 2 ≤ length (now amounts)) ⌝ }
+    requires { ⌜ RoomFor used (now words) (now amounts) ⌝ }
     ensures { λ r. ⌜ (r ≡ used → ⊥) ⌝ }
 {
     let mut count: usize = 0;
@@ -90,7 +91,7 @@ pub fn suspect(
     count: usize,
     order: &[u16],
 ) -> usize
-    requires { ⌜ (used * 9 ≤ length (now words)) × (used * 2 ≤ length (now amounts)) ⌝ }
+    requires { ⌜ RoomFor used (now words) (now amounts) ⌝ }
     requires { ⌜ (length (now lasts) ≡ length (now firsts)) × (count ≤ length (now order)) ⌝ }
     ensures { λ r. ⌜ (r ≡ used → ⊥) ⌝ }
 {

@@ -2,10 +2,10 @@
 // A function that shows something says so by answering the used count. Any other answer shows nothing: below the used count it is the place of an entry that is likely at fault.
 ghost use mathlib.Core.Path.{_≡_};
 ghost use mathlib.Core.Bool.{false};
-ghost use Prim.Native.Nat.{ℕ, _≤_, _<_, _*_};
+ghost use Prim.Native.Nat.{ℕ, _≤_, _<_};
 ghost use lib.ListN.{length, getD};
 ghost use Rattle.entries.specs.Entries.{entryOf};
-ghost use Rattle.entries.specs.Words.{entriesOf};
+ghost use Rattle.entries.specs.Words.{RoomFor, entriesOf};
 ghost use Rattle.buckets.specs.Buckets.{Indexed};
 ghost use Rattle.lists.specs.Column.{Copied};
 ghost use Rattle.entry_keys.specs.Keys.{KeysDiffer, stateAt};
@@ -25,7 +25,7 @@ fn cancelled_place(
     i: usize,
     cancel: Entry,
 ) -> usize
-    requires { ⌜ (used * 9 ≤ length (now words)) × (used * 2 ≤ length (now amounts)) × (i < used) ⌝ }
+    requires { ⌜ RoomFor used (now words) (now amounts) × (i < used) ⌝ }
     requires { ⌜ (used ≤ length (now keys)) × (used ≤ length (now order)) × (sorted ≡ false → Indexed (now keys) used (now heads) (now links)) ⌝ }
     requires { ⌜ (cancel ≡ entryOf (entriesOf (now words) (now amounts) used) i) × (cancel .state ≡ 4) ⌝ }
     ensures { λ r. ⌜ (r < used → Cancels (entriesOf (now (words .entry)) (now (amounts .entry)) used) i r) ⌝ }
@@ -58,7 +58,7 @@ fn mark_cancelled(
     states: &[u8],
     marks: &mut [u16],
 ) -> usize
-    requires { ⌜ (used * 9 ≤ length (now words)) × (used * 2 ≤ length (now amounts)) × (used ≤ length (now states)) × (used ≤ length (now marks)) × (used ≤ 65535) ⌝ }
+    requires { ⌜ RoomFor used (now words) (now amounts) × (used ≤ length (now states)) × (used ≤ length (now marks)) × (used ≤ 65535) ⌝ }
     requires { ⌜ (used ≤ length (now keys)) × (used ≤ length (now order)) × (sorted ≡ false → Indexed (now keys) used (now heads) (now links)) ⌝ }
     requires { ⌜ Copied (stateAt (entriesOf (now words) (now amounts) used)) used (now states) × ((j : ℕ) → getD (now marks) j 0 ≡ 0) ⌝ }
     ensures { λ r. ⌜ (r ≡ used → Marked (entriesOf (now (words .entry)) (now (amounts .entry)) used) used (now (marks .exit))) ⌝ }
@@ -120,7 +120,7 @@ pub fn pair_off(
     states: &[u8],
     marks: &mut [u16],
 ) -> usize
-    requires { ⌜ (used * 9 ≤ length (now words)) × (used * 2 ≤ length (now amounts)) × (used ≤ length (now states)) × (used ≤ length (now marks)) × (used ≤ 65535) ⌝ }
+    requires { ⌜ RoomFor used (now words) (now amounts) × (used ≤ length (now states)) × (used ≤ length (now marks)) × (used ≤ 65535) ⌝ }
     requires { ⌜ (used ≤ length (now keys)) × (used ≤ length (now order)) × (sorted ≡ false → Indexed (now keys) used (now heads) (now links)) ⌝ }
     requires { ⌜ Copied (stateAt (entriesOf (now words) (now amounts) used)) used (now states) × ((j : ℕ) → getD (now marks) j 0 ≡ 0) ⌝ }
     requires { ⌜ KeysDiffer (entriesOf (now words) (now amounts) used) used ⌝ }

@@ -2,12 +2,11 @@
 // The runs may hold anything; places are those of entries in use.
 ghost use mathlib.Core.Path.{_≡_};
 ghost use mathlib.Core.Bool.{cond, _||_, _&&_};
-ghost use Prim.Native.Nat.{ℕ, _≤_, _<_, _+_, _*_};
+ghost use Prim.Native.Nat.{ℕ, _≤_, _<_, _+_};
 ghost use lib.Dec.{eqb};
 ghost use lib.IntN.{_+ℤ_};
-ghost use lib.ListN.{length};
 ghost use Rattle.lists.specs.Below.{someBelow};
-ghost use Rattle.entries.specs.Words.{entriesOf};
+ghost use Rattle.entries.specs.Words.{RoomFor, entriesOf};
 ghost use Rattle.soundness.specs.Sound.{isZero, sameSubject, isNamed, namesAlike, opposite, cancelsBefore, cancelledBefore, pairs, unpaired};
 use entries::Entry;
 
@@ -92,7 +91,7 @@ fn counts(cancel: Entry, e: Entry, as_cancel: bool) -> bool
 
 // How many of those stand before the place at end.
 fn count_before(words: &[u64], amounts: &[i64], cancel: Entry, as_cancel: bool, end: usize) -> usize
-    requires { ⌜ (end * 9 ≤ length (now words)) × (end * 2 ≤ length (now amounts)) ⌝ }
+    requires { ⌜ RoomFor end (now words) (now amounts) ⌝ }
     ensures { λ r. ⌜ ((n : ℕ) → end ≤ n → (let es = entriesOf (now (words .entry)) (now (amounts .entry)) n in r ≡ cond «as_cancel» (cancelsBefore es cancel end) (cancelledBefore es cancel end))) ⌝ }
 {
     let mut count: usize = 0;
@@ -108,7 +107,7 @@ fn count_before(words: &[u64], amounts: &[i64], cancel: Entry, as_cancel: bool, 
 
 // Whether the cancel at i pairs with the cancelled entry at j, before it. What takes a scan is looked at last, as few pairs come so far.
 fn pairs(words: &[u64], amounts: &[i64], i: usize, j: usize) -> bool
-    requires { ⌜ (i * 9 + 9 ≤ length (now words)) × (i * 2 + 2 ≤ length (now amounts)) ⌝ }
+    requires { ⌜ RoomFor (i + 1) (now words) (now amounts) ⌝ }
     ensures { λ r. ⌜ ((n : ℕ) → i < n → r ≡ pairs (entriesOf (now (words .entry)) (now (amounts .entry)) n) i j) ⌝ }
 {
     if i <= j {
@@ -130,8 +129,8 @@ fn pairs(words: &[u64], amounts: &[i64], i: usize, j: usize) -> bool
 
 // Whether the entries at i and at j pair, whichever of them is the cancel.
 fn are_partners(words: &[u64], amounts: &[i64], i: usize, j: usize) -> bool
-    requires { ⌜ (i * 9 + 9 ≤ length (now words)) × (i * 2 + 2 ≤ length (now amounts)) ⌝ }
-    requires { ⌜ (j * 9 + 9 ≤ length (now words)) × (j * 2 + 2 ≤ length (now amounts)) ⌝ }
+    requires { ⌜ RoomFor (i + 1) (now words) (now amounts) ⌝ }
+    requires { ⌜ RoomFor (j + 1) (now words) (now amounts) ⌝ }
     ensures { λ r. ⌜ ((n : ℕ) → i < n → j < n → (let es = entriesOf (now (words .entry)) (now (amounts .entry)) n in r ≡ (pairs es i j || pairs es j i))) ⌝ }
 {
     if pairs(words, amounts, i, j) {
@@ -142,7 +141,7 @@ fn are_partners(words: &[u64], amounts: &[i64], i: usize, j: usize) -> bool
 
 // Whether the entry at i pairs with some entry.
 fn has_partner(words: &[u64], amounts: &[i64], used: usize, i: usize) -> bool
-    requires { ⌜ (used * 9 ≤ length (now words)) × (used * 2 ≤ length (now amounts)) × (i < used) ⌝ }
+    requires { ⌜ RoomFor used (now words) (now amounts) × (i < used) ⌝ }
     ensures { λ r. ⌜ (let es = entriesOf (now (words .entry)) (now (amounts .entry)) used in r ≡ someBelow (λ (j : ℕ). pairs es i j || pairs es j i) used) ⌝ }
 {
     let mut j: usize = 0;
@@ -157,7 +156,7 @@ fn has_partner(words: &[u64], amounts: &[i64], used: usize, i: usize) -> bool
 
 // "cancels and cancelled entries pair off as 39 and 40 require, the cancelled one earlier": whether the entry at i lacks its partner.
 pub fn is_unpaired(words: &[u64], amounts: &[i64], used: usize, i: usize) -> bool
-    requires { ⌜ (used * 9 ≤ length (now words)) × (used * 2 ≤ length (now amounts)) × (i < used) ⌝ }
+    requires { ⌜ RoomFor used (now words) (now amounts) × (i < used) ⌝ }
     ensures { λ r. ⌜ r ≡ unpaired (entriesOf (now (words .entry)) (now (amounts .entry)) used) i ⌝ }
 {
     if !soundness::is_within(3, 4, entries::entry_at(words, amounts, i).state) {

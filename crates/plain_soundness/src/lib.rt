@@ -1,9 +1,9 @@
 // Whether a ledger is sound, each entry compared with all others, over the entries that two lent runs of numbers hold.
 // The runs may hold anything; places are those of entries in use. A loop stops at the first fault. `soundness_certificate::is_sound` gives the same answer, and does not compare all pairs of a sound ledger.
 ghost use mathlib.Core.Path.{_≡_};
-ghost use Prim.Native.Nat.{ℕ, _≤_, _<_, _+_, _*_};
-ghost use lib.ListN.{length};
-ghost use Rattle.entries.specs.Words.{entriesOf};
+ghost use Prim.Native.Nat.{ℕ, _<_, _+_};
+ghost use Rattle.entries.specs.Words.{RoomFor, entriesOf};
+ghost use Rattle.soundness.specs.Room.{LedgerRoom};
 ghost use Rattle.soundness.specs.Sound.{sameKey, repeatsKey, clash, clashes, isFaulty, isSound};
 use entries::Entry;
 
@@ -18,7 +18,7 @@ fn has_same_key(a: Entry, b: Entry) -> bool
 
 // "no sender and Record ID pair repeats": whether an entry before the one at i has its sender and Record ID.
 fn repeats_key(words: &[u64], amounts: &[i64], i: usize) -> bool
-    requires { ⌜ (i * 9 + 9 ≤ length (now words)) × (i * 2 + 2 ≤ length (now amounts)) ⌝ }
+    requires { ⌜ RoomFor (i + 1) (now words) (now amounts) ⌝ }
     ensures { λ r. ⌜ ((n : ℕ) → i < n → r ≡ repeatsKey (entriesOf (now (words .entry)) (now (amounts .entry)) n) i) ⌝ }
 {
     let later = entries::entry_at(words, amounts, i);
@@ -50,7 +50,7 @@ fn do_clash(a: Entry, b: Entry) -> bool
 
 // "live periods of a site share no day": whether a live period before the one at i, of its site, shares a day with it.
 fn clashes(words: &[u64], amounts: &[i64], i: usize) -> bool
-    requires { ⌜ (i * 9 + 9 ≤ length (now words)) × (i * 2 + 2 ≤ length (now amounts)) ⌝ }
+    requires { ⌜ RoomFor (i + 1) (now words) (now amounts) ⌝ }
     ensures { λ r. ⌜ ((n : ℕ) → i < n → r ≡ clashes (entriesOf (now (words .entry)) (now (amounts .entry)) n) i) ⌝ }
 {
     let later = entries::entry_at(words, amounts, i);
@@ -69,7 +69,7 @@ fn clashes(words: &[u64], amounts: &[i64], i: usize) -> bool
 
 // Whether the entry at i is at fault in some sentence.
 pub fn is_faulty(words: &[u64], amounts: &[i64], used: usize, i: usize) -> bool
-    requires { ⌜ (used * 9 ≤ length (now words)) × (used * 2 ≤ length (now amounts)) × (i < used) ⌝ }
+    requires { ⌜ RoomFor used (now words) (now amounts) × (i < used) ⌝ }
     ensures { λ r. ⌜ r ≡ isFaulty (entriesOf (now (words .entry)) (now (amounts .entry)) used) i ⌝ }
 {
     if !soundness::entry_fits(entries::entry_at(words, amounts, i)) {
@@ -86,7 +86,7 @@ pub fn is_faulty(words: &[u64], amounts: &[i64], used: usize, i: usize) -> bool
 
 // Whether the first entries of a run of places, as many as are in use, make a sound ledger: each is compared with all others.
 pub fn is_sound_plainly(words: &[u64], amounts: &[i64], places: usize, used: usize) -> bool
-    requires { ⌜ (73728 ≤ length (now words)) × (16384 ≤ length (now amounts)) ⌝ }
+    requires { ⌜ LedgerRoom places used (now words) (now amounts) ⌝ }
     ensures { λ r. ⌜ r ≡ isSound (entriesOf (now (words .entry)) (now (amounts .entry)) places) used ⌝ }
 {
     if !soundness::sizes_fit(places, used) {

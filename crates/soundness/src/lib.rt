@@ -2,18 +2,18 @@
 // `plain_soundness::is_sound_plainly` and `soundness_certificate::is_sound` ask them all.
 ghost use mathlib.Core.Path.{_≡_};
 ghost use mathlib.Core.Bool.{not, cond, _||_, _&&_};
-ghost use Prim.Native.Nat.{_≤_, _<_, _*_, _^_};
+ghost use Prim.Native.Nat.{_<_, _^_};
 ghost use lib.Dec.{eqb, ltb};
 ghost use lib.IntN.{natAbs};
-ghost use lib.ListN.{length};
 ghost use Rattle.entries.specs.Entries.{entryOf, isPeriod};
-ghost use Rattle.entries.specs.Words.{entriesOf};
+ghost use Rattle.entries.specs.Words.{RoomFor, entriesOf};
+ghost use Rattle.soundness.specs.Room.{readCount};
 ghost use Rattle.soundness.specs.Sound.{sizesFit, digitsFit, within, rangesFit, isZero, lacksFit, entryFits, isLivePeriod};
 use entries::Entry;
 
 // The entry at a place in use.
 pub fn entry_in_use(words: &[u64], amounts: &[i64], used: usize, i: usize) -> Entry
-    requires { ⌜ (used * 9 ≤ length (now words)) × (used * 2 ≤ length (now amounts)) × (i < used) ⌝ }
+    requires { ⌜ RoomFor used (now words) (now amounts) × (i < used) ⌝ }
     ensures { λ r. ⌜ r ≡ entryOf (entriesOf (now (words .entry)) (now (amounts .entry)) used) i ⌝ }
 {
     entries::entry_at(words, amounts, i)
@@ -27,6 +27,13 @@ pub fn sizes_fit(places: usize, used: usize) -> bool
         return false;
     }
     used <= places
+}
+
+// How many entries are read of a ledger: those in use, and none where the sizes don't fit.
+pub fn read_count(places: usize, used: usize) -> usize
+    ensures { λ r. ⌜ r ≡ readCount places used ⌝ }
+{
+    if sizes_fit(places, used) { used } else { 0 }
 }
 
 // Whether an amount has at most 15 digits.

@@ -2,13 +2,14 @@
 // A function that shows something says so by answering the used count. Any other answer shows nothing: below the used count it is the place of an entry that is likely at fault.
 ghost use mathlib.Core.Path.{_≡_};
 ghost use mathlib.Core.Bool.{true};
-ghost use Prim.Native.Nat.{ℕ, _≤_, _<_, _*_};
+ghost use Prim.Native.Nat.{ℕ, _≤_, _<_};
 ghost use lib.Dec.{eqb};
 ghost use lib.ListN.{length, getD};
 ghost use Rattle.apart.specs.Gathered.{Gathering};
-ghost use Rattle.entries.specs.Words.{entriesOf};
+ghost use Rattle.entries.specs.Words.{RoomFor, entriesOf};
 ghost use Rattle.live_periods.specs.LivePeriods.{liveAt, firstDay, lastDay, LiveApart};
 ghost use Rattle.soundness.specs.Meaning.{Sound};
+ghost use Rattle.soundness.specs.Room.{LedgerRoom};
 ghost use Rattle.soundness.specs.Sound.{sizesFit, isSound};
 
 // Shows that live periods of a site, of which `count` were gathered in all, share no day. Two columns are lent to hold their order.
@@ -22,7 +23,7 @@ fn compare_periods(
     order: &mut [u16],
     ranks: &mut [u16],
 ) -> usize
-    requires { ⌜ (used * 9 ≤ length (now words)) × (used * 2 ≤ length (now amounts)) ⌝ }
+    requires { ⌜ RoomFor used (now words) (now amounts) ⌝ }
     requires { ⌜ (used ≤ length (now firsts)) × (length (now lasts) ≡ length (now firsts)) × (used ≤ length (now order)) × (used ≤ length (now ranks)) × (used ≤ 65535) ⌝ }
     requires { ⌜ (let es = entriesOf (now words) (now amounts) used in Gathering (liveAt es) (firstDay es) (lastDay es) (now firsts) (now lasts) used count) ⌝ }
     ensures { λ r. ⌜ (r ≡ used → LiveApart (entriesOf (now (words .entry)) (now (amounts .entry)) used) used) ⌝ }
@@ -48,7 +49,7 @@ fn certify_in(
     order: &mut [u16],
     sorted: bool,
 ) -> usize
-    requires { ⌜ (used * 9 ≤ length (now words)) × (used * 2 ≤ length (now amounts)) × (used ≤ 8192) ⌝ }
+    requires { ⌜ RoomFor used (now words) (now amounts) × (used ≤ 8192) ⌝ }
     requires { ⌜ (used ≤ length (now keys)) × (used ≤ length (now states)) × (used ≤ length (now firsts)) × (length (now lasts) ≡ length (now firsts)) × (0 < length (now heads)) × (length (now heads) ≤ 65536) × (used ≤ length (now links)) × (used ≤ length (now marks)) × (used ≤ length (now order)) ⌝ }
     requires { ⌜ ((b : ℕ) → getD (now heads) b 0 ≡ 0) × ((j : ℕ) → getD (now marks) j 0 ≡ 0) ⌝ }
     ensures { λ r. ⌜ (r ≡ used → Sound (entriesOf (now (words .entry)) (now (amounts .entry)) used) used) ⌝ }
@@ -90,7 +91,7 @@ fn certify_in(
 
 // For up to 1,024 entries: larger columns take longer to make than so few entries to read.
 fn certify_of_few(words: &[u64], amounts: &[i64], used: usize, sorted: bool) -> usize
-    requires { ⌜ (used * 9 ≤ length (now words)) × (used * 2 ≤ length (now amounts)) × (used ≤ 1024) ⌝ }
+    requires { ⌜ RoomFor used (now words) (now amounts) × (used ≤ 1024) ⌝ }
     ensures { λ r. ⌜ (r ≡ used → Sound (entriesOf (now (words .entry)) (now (amounts .entry)) used) used) ⌝ }
 {
     let mut keys = [0u64; 1024];
@@ -119,7 +120,7 @@ fn certify_of_few(words: &[u64], amounts: &[i64], used: usize, sorted: bool) -> 
 
 // For up to 8,192 entries, and twice as many buckets, so that few of them hold two entries.
 fn certify_of_many(words: &[u64], amounts: &[i64], used: usize, sorted: bool) -> usize
-    requires { ⌜ (used * 9 ≤ length (now words)) × (used * 2 ≤ length (now amounts)) × (used ≤ 8192) ⌝ }
+    requires { ⌜ RoomFor used (now words) (now amounts) × (used ≤ 8192) ⌝ }
     ensures { λ r. ⌜ (r ≡ used → Sound (entriesOf (now (words .entry)) (now (amounts .entry)) used) used) ⌝ }
 {
     let mut keys = [0u64; 8192];
@@ -147,7 +148,7 @@ fn certify_of_many(words: &[u64], amounts: &[i64], used: usize, sorted: bool) ->
 }
 
 fn certify(words: &[u64], amounts: &[i64], used: usize, sorted: bool) -> usize
-    requires { ⌜ (used * 9 ≤ length (now words)) × (used * 2 ≤ length (now amounts)) × (used ≤ 8192) ⌝ }
+    requires { ⌜ RoomFor used (now words) (now amounts) × (used ≤ 8192) ⌝ }
     ensures { λ r. ⌜ (r ≡ used → Sound (entriesOf (now (words .entry)) (now (amounts .entry)) used) used) ⌝ }
 {
     if used <= 1024 {
@@ -158,7 +159,7 @@ fn certify(words: &[u64], amounts: &[i64], used: usize, sorted: bool) -> usize
 
 // In one of the two ways: 1 where the ledger is shown to be sound, 0 where an entry is found at fault, and 2 where neither is.
 fn judge(words: &[u64], amounts: &[i64], used: usize, sorted: bool) -> u64
-    requires { ⌜ (used * 9 ≤ length (now words)) × (used * 2 ≤ length (now amounts)) × (used ≤ 8192) ⌝ }
+    requires { ⌜ RoomFor used (now words) (now amounts) × (used ≤ 8192) ⌝ }
     ensures { λ r. ⌜ ((places : ℕ) → sizesFit places used ≡ true → r < 2 → eqb r 1 ≡ isSound (entriesOf (now (words .entry)) (now (amounts .entry)) places) used) ⌝ }
 {
     let place = certify(words, amounts, used, sorted);
@@ -176,7 +177,7 @@ fn judge(words: &[u64], amounts: &[i64], used: usize, sorted: bool) -> u64
 
 // Whether the first entries of a run of places, as many as are in use, make a sound ledger.
 pub fn is_sound(words: &[u64], amounts: &[i64], places: usize, used: usize) -> bool
-    requires { ⌜ (73728 ≤ length (now words)) × (16384 ≤ length (now amounts)) ⌝ }
+    requires { ⌜ LedgerRoom places used (now words) (now amounts) ⌝ }
     ensures { λ r. ⌜ r ≡ isSound (entriesOf (now (words .entry)) (now (amounts .entry)) places) used ⌝ }
 {
     if !soundness::sizes_fit(places, used) {

@@ -4,7 +4,7 @@
 use borrow.Author.Needs.{needs}
 use native.Mathlib.Omega.{arith}
 use mathlib.Core.Path.{_≡_, sym}
-use Rattle.lists.proofs.Table.{tabulate}
+use Rattle.lists.specs.Tabulate.{tabulate}
 use Rattle.codes.specs.Codes.{codeIn, codeOf}
 use Rattle.codes.proofs.Laws.{codeTable, code-above, codes-zero, codes-some}
 use Rattle.codes.proofs.code_of.Statement.{statement}

@@ -2,7 +2,7 @@
 -- Assumes nothing.
 use mathlib.Core.Path.{_≡_}
 use borrow.Author.Tests.{le-ltb}
-use Rattle.lists.proofs.Table.{tabulate}
+use Rattle.lists.specs.Tabulate.{tabulate}
 use Rattle.lists.proofs.Numbers.{last-of-nine}
 use Rattle.columns.specs.Columns.{fieldOf}
 use Rattle.columns.proofs.fields_of.Statement.{statement}

@@ -1,30 +1,38 @@
--- `ledger_comparison::ledger_find` meets its contract: 1 for words that are too short, and else the word for what `ledger::find` answers.
+-- `ledger_comparison::ledger_find` meets its contract: 1 for words that lack room, and else the word for what `ledger::find` answers.
 -- Assumes nothing.
-use mathlib.Core.Path.{_≡_, sym, _∙_}
+use mathlib.Core.Path.{_≡_, sym, _∙_, ap}
 use mathlib.Core.Bool.{true}
 use borrow.Author.Needs.{needs}
 use borrow.Author.Tests.{not-true, not-false}
 use native.Mathlib.Omega.{arith}
 use denote.Ref.{now}
-use lib.ListN.{length}
+use Rattle.entries.proofs.Room.{room-means}
 use Rattle.entries.specs.Words.{entriesOf}
-use Rattle.ledger_comparison.specs.Answers.{wordsHold}
-use Rattle.ledger_comparison.proofs.Laws.{words-held, place-small}
+use Rattle.ledger.specs.Ledger.{resultOfFound}
+use Rattle.ledger_comparison.specs.Answers.{hasLedgerRoom}
+use Rattle.ledger_comparison.proofs.Laws.{room-asked, place-small}
 use Rattle.ledger_comparison.proofs.ledger_find.Statement.{statement}
 use Rattle.ledger_comparison.proofs.ledger_find.Tie as tie
 
-words-hold-requires : tie.Need-words-hold-requires
-words-hold-requires c κs = search needs
+read-count-requires : tie.Need-read-count-requires
+read-count-requires c κs = search needs
+
+has-room-requires : tie.Need-has-room-requires
+has-room-requires c κs = search needs
+
+-- what the first test says
+asked : (c : tie.After-has-room) → let a = c .before .before .before .args in hasLedgerRoom (a .places) (a .used) (now (a .words)) (now (a .amounts)) ≡ c .has-room .result
+asked c = let a = c .before .before .before .args in room-asked (now (a .words)) (now (a .amounts)) (a .places) (a .used) (c .before .read-count .ensures) (c .has-room .ensures)
 
 returns : tie.Need-returns
-returns c = rw (sym (c .before .words-hold .ensures) ∙ not-true _ (c .if1 .taken))
+returns c = rw (asked (c .before) ∙ not-true _ (c .if1 .taken))
 
--- past the first test the words hold the entries
-held : (c : tie.Else1) → let a = c .before .before .before .args in wordsHold (length (now (a .words))) (length (now (a .amounts))) ≡ true
-held c = sym (c .before .words-hold .ensures) ∙ not-false _ (c .if1 .left)
+-- past it the words have room for what is read
+room : (c : tie.Else1) → let a = c .before .before .before .before .args in hasLedgerRoom (a .places) (a .used) (now (a .words)) (now (a .amounts)) ≡ true
+room c = asked (c .before) ∙ not-false _ (c .if1 .left)
 
 find-requires : tie.Need-find-requires
-find-requires c κs = words-held _ _ .0 (held c)
+find-requires c κs = room-means _ _ _ .0 (room c)
 
 enum-told : tie.Need-enum-told
 enum-told c = search needs
@@ -43,30 +51,31 @@ enum-known-place c = search needs
 
 add-result : tie.Need-add-result
 add-result c =
-    let a = c .before .before .before .before .before .before .before .args in
-    let found = sym (c .before .before .before .find .ensures) ∙ c .before .place .given .1 in
+    let a = c .before .before .before .before .before .before .before .before .args in
+    let found = sym (c .before .before .before .find .ensures) ∙ ap resultOfFound (c .before .place .given .1) in
     omega (arith, place-small (entriesOf (now (a .words)) (now (a .amounts)) (a .places)) (a .used) (a .site) (a .day) _ found)
 
 enum-told-3 : tie.Need-enum-told-3
 enum-told-3 c = search needs
 
 returns-2 : tie.Need-returns-2
-returns-2 c = rw (held (c .before .before .before), sym (c .before .before .find .ensures) ∙ c .enum-told .given .1)
+returns-2 c = rw (room (c .before .before .before), sym (c .before .before .find .ensures) ∙ ap resultOfFound (c .enum-told .given .1))
 
 returns-3 : tie.Need-returns-3
-returns-3 c = rw (held (c .before .before .before), sym (c .before .before .find .ensures) ∙ c .enum-told2 .given .1)
+returns-3 c = rw (room (c .before .before .before), sym (c .before .before .find .ensures) ∙ ap resultOfFound (c .enum-told2 .given .1))
 
 returns-4 : tie.Need-returns-4
-returns-4 c = rw (held (c .before .before .before .before), sym (c .before .before .before .find .ensures) ∙ c .before .place .given .1) (omega arith)
+returns-4 c = rw (room (c .before .before .before .before), sym (c .before .before .before .find .ensures) ∙ ap resultOfFound (c .before .place .given .1)) (omega arith)
 
 returns-5 : tie.Need-returns-5
-returns-5 c = rw (held (c .before .before .before), sym (c .before .before .find .ensures) ∙ c .enum-told3 .given .1)
+returns-5 c = rw (room (c .before .before .before), sym (c .before .before .find .ensures) ∙ ap resultOfFound (c .enum-told3 .given .1))
 
 pub ledger-find-spec : {M : Type 1} → statement M
 ledger-find-spec =
     tie.close
     (tie.spec
-    words-hold-requires
+    read-count-requires
+    has-room-requires
     returns
     find-requires
     enum-told

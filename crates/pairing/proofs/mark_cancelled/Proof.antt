@@ -37,7 +37,7 @@ cancelled-place-requires c κs =
     let s = c .before .before .before .before .before .before .before .before .before .before .before .before in
     let less = c .before .before .before .loop-test .taken in
     let is = c .entry-in-use .ensures in
-    ((s .pre .0 .0, s .pre .0 .1, less), (s .pre .1 .0, (is, ap (λ (e : Entry). e .state) is ∙ sym (s .pre .1 .1 .0 _ less) ∙ c .before .if1 .taken)))
+    ((s .pre .0 .0, less), (s .pre .1 .0, (is, ap (λ (e : Entry). e .state) is ∙ sym (s .pre .1 .1 .0 _ less) ∙ c .before .if1 .taken)))
 
 same-length : tie.Need-same-length Inv-loop μ-loop
 same-length c = search needs

@@ -29,7 +29,7 @@ entries c = entriesOf (now (c .args .words)) (now (c .args .amounts)) (c .args .
 tested : (c : tie.After-is-within) → c .is-within .result ≡ within 3 4 (entryOf (entries (c .before .before .before)) (c .before .before .before .args .i) .state)
 tested c =
     let a = c .before .before .before .args in
-    c .is-within .ensures ∙ ap (λ (e : Entry). within 3 4 (e .state)) (c .before .entry-at .ensures ∙ sym (entry-of (now (a .words)) (now (a .amounts)) (a .used) (a .i) (c .before .before .before .pre .2)))
+    c .is-within .ensures ∙ ap (λ (e : Entry). within 3 4 (e .state)) (c .before .entry-at .ensures ∙ sym (entry-of (now (a .words)) (now (a .amounts)) (a .used) (a .i) (c .before .before .before .pre .1)))
 
 returns : tie.Need-returns
 returns c = let p = c .before .before .before .before in sym (no-partner-needed (entries p) (p .args .i) (sym (tested (c .before)) ∙ not-true _ (c .if1 .taken)))

@@ -1,6 +1,7 @@
 -- `partners::pairs` meets its contract: each condition that fails decides the answer, and where all others hold the two counts do.
 -- Assumes nothing.
 use Rattle.partners.proofs.Conditions.{not-earlier, no-cancel, not-named, not-opposite, pairs-by-ranks}
+use Rattle.entries.proofs.Room.{room-fewer}
 use Rattle.entries.proofs.Words.{entry-of}
 use Rattle.entries.specs.Words.{entriesOf}
 use Rattle.entries.specs.Entries.{entryOf}
@@ -43,7 +44,7 @@ returns-2 c =
     sym (no-cancel (entries p n) (p .args .i) (p .args .j) (c .before .before .entry-at .result) e (at-i (c .before .before) n h) refl (c .if2 .taken))
 
 entry-at-requires-2 : tie.Need-entry-at-requires-2
-entry-at-requires-2 c κs = let h = c .before .before .before .before .before .pre in (omega (arith, c .before .before .before .if1 .left, h .0), omega (arith, c .before .before .before .if1 .left, h .1))
+entry-at-requires-2 c κs = room-fewer (omega (arith, c .before .before .before .if1 .left)) (c .before .before .before .before .before .pre)
 
 is-named-requires : tie.Need-is-named-requires
 is-named-requires c κs = search needs
@@ -64,10 +65,10 @@ returns-4 c =
     sym (not-opposite (entries p n) (p .args .i) (p .args .j) (c .before .before .before .before .before .before .before .entry-at .result) (c .before .before .before .before .entry-at2 .result) (at-i (c .before .before .before .before .before .before .before) n h) (at-j (c .before .before .before .before) n h) (sym (c .before .is-opposite .ensures) ∙ not-true _ (c .if4 .taken)))
 
 count-before-requires : tie.Need-count-before-requires
-count-before-requires c κs = let h = c .before .before .before .before .before .before .before .before .before .before .pre in (omega (arith, h .0), omega (arith, h .1))
+count-before-requires c κs = room-fewer (omega arith) (c .before .before .before .before .before .before .before .before .before .before .pre)
 
 count-before-requires-2 : tie.Need-count-before-requires-2
-count-before-requires-2 c κs = let h = c .before .before .before .before .before .before .before .before .before .before .before .pre in (omega (arith, c .before .before .before .before .before .before .before .before .before .if1 .left, h .0), omega (arith, c .before .before .before .before .before .before .before .before .before .if1 .left, h .1))
+count-before-requires-2 c κs = room-fewer (omega (arith, c .before .before .before .before .before .before .before .before .before .if1 .left)) (c .before .before .before .before .before .before .before .before .before .before .before .pre)
 
 returns-5 : tie.Need-returns-5
 returns-5 c =

@@ -4,6 +4,7 @@ use Rattle.plain_soundness.proofs.Scans.{earlier-scan}
 use Rattle.plain_soundness.proofs.Conditions.{not-live-later}
 use Rattle.lists.proofs.Below.{Searched, searched-none, searched-more, searched-here, searched-end, found-some, found-none, none-some}
 use Rattle.soundness.specs.Sound.{clash, clashes}
+use Rattle.entries.proofs.Room.{room-fewer}
 use Rattle.entries.specs.Words.{entryAt}
 use Rattle.entries.specs.declared.Entry.{Entry}
 use Prim.Native.Nat.{ℕ, _-_, _≤_, _<_}
@@ -47,7 +48,7 @@ loop-holds : tie.Need-loop-holds Inv-loop μ-loop
 loop-holds c = let a = c .before .before .before .before .args in (omega arith, searched-none (withLater (now (a .words)) (now (a .amounts)) (c .before .before .entry-at .result)) (a .i))
 
 entry-at-requires-2 : tie.Need-entry-at-requires-2 Inv-loop μ-loop
-entry-at-requires-2 c κs = let h = c .before .before .before .before .before .before .pre in (omega (arith, c .loop-test .taken, h .0), omega (arith, c .loop-test .taken, h .1))
+entry-at-requires-2 c κs = room-fewer (omega (arith, c .loop-test .taken)) (c .before .before .before .before .before .before .pre)
 
 do-clash-requires : tie.Need-do-clash-requires Inv-loop μ-loop
 do-clash-requires c κs = search needs

@@ -27,7 +27,7 @@ entries c = entriesOf (now (c .args .words)) (now (c .args .amounts)) (c .args .
 tested : (c : tie.After-entry-fits) → c .entry-fits .result ≡ entryFits (entryOf (entries (c .before .before .before)) (c .before .before .before .args .i))
 tested c =
     let a = c .before .before .before .args in
-    c .entry-fits .ensures ∙ ap entryFits (c .before .entry-at .ensures ∙ sym (entry-of (now (a .words)) (now (a .amounts)) (a .used) (a .i) (c .before .before .before .pre .2)))
+    c .entry-fits .ensures ∙ ap entryFits (c .before .entry-at .ensures ∙ sym (entry-of (now (a .words)) (now (a .amounts)) (a .used) (a .i) (c .before .before .before .pre .1)))
 
 returns : tie.Need-returns
 returns c = let p = c .before .before .before .before in sym (faulty-entry (entries p) (p .args .i) (sym (tested (c .before)) ∙ not-true _ (c .if1 .taken)))
@@ -36,13 +36,13 @@ repeats-key-requires : tie.Need-repeats-key-requires
 repeats-key-requires c κs = search needs
 
 returns-2 : tie.Need-returns-2
-returns-2 c = let p = c .before .before .before .before .before .before in sym (faulty-key (entries p) (p .args .i) (sym (c .before .repeats-key .ensures (p .args .used) (p .pre .2)) ∙ c .if2 .taken))
+returns-2 c = let p = c .before .before .before .before .before .before in sym (faulty-key (entries p) (p .args .i) (sym (c .before .repeats-key .ensures (p .args .used) (p .pre .1)) ∙ c .if2 .taken))
 
 clashes-requires : tie.Need-clashes-requires
 clashes-requires c κs = search needs
 
 returns-3 : tie.Need-returns-3
-returns-3 c = let p = c .before .before .before .before .before .before .before .before in sym (faulty-days (entries p) (p .args .i) (sym (c .before .clashes .ensures (p .args .used) (p .pre .2)) ∙ c .if3 .taken))
+returns-3 c = let p = c .before .before .before .before .before .before .before .before in sym (faulty-days (entries p) (p .args .i) (sym (c .before .clashes .ensures (p .args .used) (p .pre .1)) ∙ c .if3 .taken))
 
 is-unpaired-requires : tie.Need-is-unpaired-requires
 is-unpaired-requires c κs = search needs
@@ -51,8 +51,8 @@ returns-4 : tie.Need-returns-4
 returns-4 c =
     let p = c .before .before .before .before .before .before .before .before .before in
     c .is-unpaired .ensures
-    ∙ faulty-by-partner (entries p) (p .args .i) (sym (tested (c .before .before .before .before .before .before)) ∙ not-false _ (c .before .before .before .before .before .if1 .left)) (sym (c .before .before .before .before .repeats-key .ensures (p .args .used) (p .pre .2)) ∙ c .before .before .before .if2 .left)
-    (sym (c .before .before .clashes .ensures (p .args .used) (p .pre .2)) ∙ c .before .if3 .left)
+    ∙ faulty-by-partner (entries p) (p .args .i) (sym (tested (c .before .before .before .before .before .before)) ∙ not-false _ (c .before .before .before .before .before .if1 .left)) (sym (c .before .before .before .before .repeats-key .ensures (p .args .used) (p .pre .1)) ∙ c .before .before .before .if2 .left)
+    (sym (c .before .before .clashes .ensures (p .args .used) (p .pre .1)) ∙ c .before .if3 .left)
 
 pub is-faulty-spec : {M : Type 1} → statement M
 is-faulty-spec =

@@ -1,6 +1,6 @@
 -- `plain_soundness::is_sound_plainly` meets its contract: sizes that do not fit decide the answer; the loop's invariant: the search for an entry at fault resumes at `i`.
 -- Assumes nothing.
-use Rattle.soundness.proofs.Sizes.{sizes-mean, sizes-amiss}
+use Rattle.soundness.proofs.Sizes.{sizes-amiss, room-in-use}
 use Rattle.plain_soundness.proofs.Scans.{sound-scan}
 use Rattle.soundness.specs.Sound.{sizesFit, isFaulty}
 use Rattle.entries.specs.Words.{entriesOf}
@@ -46,8 +46,7 @@ loop-holds c = (omega arith, searched-none (faulty (c .before .before .before)) 
 is-faulty-requires : tie.Need-is-faulty-requires Inv-loop μ-loop
 is-faulty-requires c κs =
     let p = c .before .before .before .before .before in
-    let sizes = sizes-mean (p .args .places) (p .args .used) .0 (fit (c .before .before)) in
-    (omega (arith, sizes, p .pre .0), omega (arith, sizes, p .pre .1), c .loop-test .taken)
+    (room-in-use (p .args .places) (p .args .used) (fit (c .before .before)) (p .pre), c .loop-test .taken)
 
 returns-2 : tie.Need-returns-2 Inv-loop μ-loop
 returns-2 c =

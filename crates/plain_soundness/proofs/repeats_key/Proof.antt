@@ -3,6 +3,7 @@
 use Rattle.plain_soundness.proofs.Scans.{earlier-scan}
 use Rattle.lists.proofs.Below.{Searched, searched-none, searched-more, searched-here, searched-end, found-some, found-none}
 use Rattle.soundness.specs.Sound.{sameKey, repeatsKey}
+use Rattle.entries.proofs.Room.{room-fewer}
 use Rattle.entries.specs.Words.{entryAt}
 use Rattle.entries.specs.declared.Entry.{Entry}
 use Prim.Native.Nat.{ℕ, _-_, _≤_, _<_}
@@ -33,7 +34,7 @@ loop-holds : tie.Need-loop-holds Inv-loop μ-loop
 loop-holds c = let a = c .before .before .args in (omega arith, searched-none (likeLater (now (a .words)) (now (a .amounts)) (c .entry-at .result)) (a .i))
 
 entry-at-requires-2 : tie.Need-entry-at-requires-2 Inv-loop μ-loop
-entry-at-requires-2 c κs = let h = c .before .before .before .before .pre in (omega (arith, c .loop-test .taken, h .0), omega (arith, c .loop-test .taken, h .1))
+entry-at-requires-2 c κs = room-fewer (omega (arith, c .loop-test .taken)) (c .before .before .before .before .pre)
 
 has-same-key-requires : tie.Need-has-same-key-requires Inv-loop μ-loop
 has-same-key-requires c κs = search needs

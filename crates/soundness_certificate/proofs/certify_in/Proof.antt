@@ -12,7 +12,7 @@ use Rattle.soundness_certificate.proofs.certify_in.Tie as tie
 index-keys-requires : tie.Need-index-keys-requires
 index-keys-requires c κs =
     let pre = c .before .before .before .before .before .before .before .before .before .before .before .before .before .before .before .before .pre in
-    ((pre .0 .0, pre .0 .1, pre .1 .0 .0, pre .1 .0 .1, pre .1 .0 .8), ((pre .1 .0 .2, omega (arith, pre .1 .0)), (pre .1 .0 .4, pre .1 .0 .5, pre .1 .0 .6, pre .0 .2, pre .1 .1 .0)))
+    ((pre .0 .0, pre .1 .0 .0, pre .1 .0 .1, pre .1 .0 .8), ((pre .1 .0 .2, omega (arith, pre .1 .0)), (pre .1 .0 .4, pre .1 .0 .5, pre .1 .0 .6, pre .0 .1, pre .1 .1 .0)))
 
 same-length : tie.Need-same-length
 same-length c = search needs
@@ -42,7 +42,7 @@ pair-off-requires : tie.Need-pair-off-requires
 pair-off-requires c κs =
     let pre = c .before .before .before .before .before .before .before .before .before .before .before .before .before .before .before .before .before .before .before .before .before .before .before .before .before .before .before .before .before .before .before .before .before .before .before .before .before .before .before .pre in
     let indexed = c .before .before .before .before .before .before .before .before .before .before .before .before .before .before .before .before .before .before .before .before .before .before .index-keys .ensures (c .before .before .before .before .before .before .if1 .left) in
-    ((pre .0 .0, pre .0 .1, search needs, search needs, omega (arith, pre .0 .2)), ((search needs, search needs, indexed .2), ((indexed .1, pre .1 .1 .1), indexed .3)))
+    ((pre .0 .0, search needs, search needs, omega (arith, pre .0 .1)), ((search needs, search needs, indexed .2), ((indexed .1, pre .1 .1 .1), indexed .3)))
 
 same-length-8 : tie.Need-same-length-8
 same-length-8 c = search needs
@@ -76,7 +76,7 @@ compare-periods-requires c κs =
     let pre = c .before .before .before .before .before .before .before .before .before .before .before .before .before .before .before .before .before .before .before .before .before .before .before .before .before .before .before .before .before .before .before .before .before .before .before .before .before .before .before .before .before .before .before .before .before .before .before .pre in
     let kept = c .before .before .before .before .before .before .before .before .before .before .before .before .before .before .before .before .before .before .before .before .before .before .before .before .before .before .before .before .before .before .index-keys .kept in
     let gathered = c .before .before .before .before .before .before .before .before .before .before .before .before .before .before .before .before .before .before .before .before .before .before .before .before .before .before .before .before .before .before .index-keys .ensures (c .before .before .before .before .before .before .before .before .before .before .before .before .before .before .if1 .left) .4 in
-    ((pre .0 .0, pre .0 .1), ((omega (arith, pre .1 .0 .2, kept .1 .1 .1 .1 .1 .0), omega (arith, pre .1 .0 .3, kept .1 .1 .1 .1 .1 .0, kept .1 .1 .1 .1 .1 .1 .0), search needs, search needs, omega (arith, pre .0 .2)), gathered))
+    (pre .0 .0, ((omega (arith, pre .1 .0 .2, kept .1 .1 .1 .1 .1 .0), omega (arith, pre .1 .0 .3, kept .1 .1 .1 .1 .1 .0, kept .1 .1 .1 .1 .1 .1 .0), search needs, search needs, omega (arith, pre .0 .1)), gathered))
 
 same-length-16 : tie.Need-same-length-16
 same-length-16 c = search needs
@@ -108,7 +108,7 @@ returns-3 c =
     let a = s .args in
     let indexed = c .before .before .before .before .before .before .before .before .before .before .before .before .before .before .before .before .before .before .before .before .before .before .before .before .before .before .before .before .before .before .before .before .before .before .before .index-keys .ensures (c .before .before .before .before .before .before .before .before .before .before .before .before .before .before .before .before .before .before .before .if1 .left) in
     let pairs = c .before .before .before .before .before .before .before .before .before .before .before .before .pair-off .ensures (c .before .before .before .before .before .before .before .before .before .if2 .left) in
-    λ e. certified (entriesOf (now (a .words)) (now (a .amounts)) (a .used)) (a .used) _ (length-entries (now (a .words)) (now (a .amounts)) (a .used)) (s .pre .0 .2) (indexed .0) (indexed .3) pairs (c .before .before .before .before .compare-periods .ensures e)
+    λ e. certified (entriesOf (now (a .words)) (now (a .amounts)) (a .used)) (a .used) _ (length-entries (now (a .words)) (now (a .amounts)) (a .used)) (s .pre .0 .1) (indexed .0) (indexed .3) pairs (c .before .before .before .before .compare-periods .ensures e)
 
 pub certify-in-spec : {M : Type 1} → statement M
 certify-in-spec =

@@ -40,7 +40,7 @@ certify-in-requires c κs =
     let long = length-replicate {A = ℕ} 1024 0 in
     let buckets = length-replicate {A = ℕ} 8192 0 in
     let room : s .args .used ≤ length (replicate {A = ℕ} 1024 0) = omega (arith, pre, long) in
-    ((pre .0, pre .1, omega (arith, pre)), ((room, room, room, refl, omega (arith, buckets), omega (arith, buckets), room, room, room), (zeros 8192, zeros 1024)))
+    ((pre .0, omega (arith, pre)), ((room, room, room, refl, omega (arith, buckets), omega (arith, buckets), room, room, room), (zeros 8192, zeros 1024)))
 
 returns : tie.Need-returns
 returns c = search needs

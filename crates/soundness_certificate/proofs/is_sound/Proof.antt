@@ -2,12 +2,12 @@
 -- Assumes nothing.
 use mathlib.Core.Path.{_≡_, sym, _∙_}
 use mathlib.Core.Bool.{true}
-use Prim.Native.Nat.{_≤_, _*_}
+use Prim.Native.Nat.{_≤_}
 use denote.Ref.{now}
-use lib.ListN.{length}
 use borrow.Author.Tests.{not-true, not-false}
+use Rattle.entries.specs.Words.{RoomFor}
 use Rattle.soundness.specs.Sound.{sizesFit}
-use Rattle.soundness.proofs.Sizes.{sizes-mean, sizes-amiss}
+use Rattle.soundness.proofs.Sizes.{sizes-mean, sizes-amiss, room-in-use}
 use borrow.Author.Needs.{needs}
 use native.Mathlib.Omega.{arith}
 use Rattle.soundness_certificate.proofs.is_sound.Statement.{statement}
@@ -23,11 +23,11 @@ returns c = let a = c .before .before .before .args in sym (sizes-amiss (now (a 
 fit : (c : tie.Else1) → sizesFit (c .before .before .before .args .places) (c .before .before .before .args .used) ≡ true
 fit c = sym (c .before .sizes-fit .ensures) ∙ not-false _ (c .if1 .left)
 
-room : (c : tie.Else1) → let a = c .before .before .before .args in (a .used * 9 ≤ length (now (a .words))) × (a .used * 2 ≤ length (now (a .amounts))) × (a .used ≤ 8192)
+room : (c : tie.Else1) → let a = c .before .before .before .args in RoomFor (a .used) (now (a .words)) (now (a .amounts)) × (a .used ≤ 8192)
 room c =
     let s = c .before .before .before in
     let sizes = sizes-mean (s .args .places) (s .args .used) .0 (fit c) in
-    (omega (arith, sizes, s .pre), omega (arith, sizes, s .pre), omega (arith, sizes))
+    (room-in-use (s .args .places) (s .args .used) (fit c) (s .pre), omega (arith, sizes))
 
 judge-requires : tie.Need-judge-requires
 judge-requires c κs = room c

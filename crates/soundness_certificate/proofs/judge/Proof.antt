@@ -19,7 +19,7 @@ returns-2 : tie.Need-returns-2
 returns-2 c = λ places fit less. absurd (omega arith)
 
 is-faulty-requires : tie.Need-is-faulty-requires
-is-faulty-requires c κs = let s = c .before .before .before .before in (s .pre .0, s .pre .1, c .if2 .left)
+is-faulty-requires c κs = let s = c .before .before .before .before in (s .pre .0, c .if2 .left)
 
 returns-3 : tie.Need-returns-3
 returns-3 c =
