@@ -41,7 +41,7 @@ abbrev pub added : List Entry → BillFile → List Entry
 added l file = ahead file ++ originalEntries (cancelAll l (cancels file) ++ ahead file) (originals file)
 
 -- ---- cancels change nothing that isn't live or held
-abbrev passive : Entry → Bool
+abbrev pub passive : Entry → Bool
 passive e = not (isLiveOrHeld e)
 
 not-named : (c : Bill) (e : Entry) → T (passive e) → namesEntry c e ≡ false
@@ -59,14 +59,14 @@ cancel-before c [] ys t = cancel-passive c ys t
 cancel-before c (x ∷ xs) ys t =
     cases (namesEntry c x) (λ e. rw e) (λ e. rw e (ap (λ (l : List Entry). x ∷ l) (cancel-before c xs ys t)))
 
-cancels-parts : (xs ys : List Entry) (cs : List Bill) → T (all passive ys) → bookCancels (xs ++ ys) cs ≡ cancelAll xs cs ++ (ys ++ cancelEntries cs)
+pub cancels-parts : (xs ys : List Entry) (cs : List Bill) → T (all passive ys) → bookCancels (xs ++ ys) cs ≡ cancelAll xs cs ++ (ys ++ cancelEntries cs)
 cancels-parts xs ys [] t = ap (λ (l : List Entry). xs ++ l) (sym (append-nil ys))
 cancels-parts xs ys (c ∷ cs) t =
     ap (λ (l : List Entry). bookCancels l cs) (ap (λ (l : List Entry). l ++ entry c 4 ∷ []) (cancel-before c xs ys t) ∙ append-assoc (cancelNamed c xs) ys (entry c 4 ∷ []))
     ∙ cancels-parts (cancelNamed c xs) (ys ++ entry c 4 ∷ []) cs (all-append passive ys (entry c 4 ∷ []) t tt)
     ∙ ap (λ (l : List Entry). cancelAll (cancelNamed c xs) cs ++ l) (append-assoc ys (entry c 4 ∷ []) (cancelEntries cs))
 
-originals-parts : (l : List Entry) (bs : List Bill) → bookOriginals l bs ≡ l ++ originalEntries l bs
+pub originals-parts : (l : List Entry) (bs : List Bill) → bookOriginals l bs ≡ l ++ originalEntries l bs
 originals-parts l [] = sym (append-nil l)
 originals-parts l (b ∷ bs) =
     originals-parts (l ++ original l b ∷ []) bs

@@ -8,7 +8,7 @@ ghost use lib.ListN.{length, getD};
 ghost use Rattle.buckets.specs.Buckets.{firstPlace, Led, Distinct, bucketOf, Indexed};
 
 // The bucket of a value, of so many.
-fn bucket(value: u64, size: usize) -> usize
+pub fn bucket(value: u64, size: usize) -> usize
     requires { ⌜ (0 < size) × (size ≤ 65536) ⌝ }
     ensures { λ r. ⌜ (r ≡ bucketOf size value) × (r < size) ⌝ }
 {

@@ -11,7 +11,7 @@ ghost use Rattle.soundness.specs.Sound.{isZero, sameSubject, isNamed, namesAlik
 use entries::Entry;
 
 // Alike in what test 39 compares, but for the Record ID.
-fn has_same_subject(a: Entry, b: Entry) -> bool
+pub fn has_same_subject(a: Entry, b: Entry) -> bool
     ensures { λ r. ⌜ r ≡ sameSubject a b ⌝ }
 {
     if a.sender != b.sender {

@@ -1,0 +1,28 @@
+-- `accepted_entries::put` meets its contract: the run with an entry written is the run with that entry at its place.
+-- Assumes nothing.
+use mathlib.Core.Path.{_∙_}
+use denote.Ref.{now}
+use borrow.Author.Needs.{needs}
+use Rattle.entries.specs.Words.{entriesOf}
+use Rattle.entries.proofs.Words.{set-entries}
+use Rattle.accepted_entries.proofs.put.Statement.{statement}
+use Rattle.accepted_entries.proofs.put.Tie as tie
+
+set-entry-requires : tie.Need-set-entry-requires
+set-entry-requires c κs = search needs
+
+same-length : tie.Need-same-length
+same-length c = search needs
+
+same-length-2 : tie.Need-same-length-2
+same-length-2 c = search needs
+
+returns : tie.Need-returns
+returns c =
+    let s = c .before .before .before .before .before .before .before in
+    let stored = c .before .before .before .set-entry .ensures in
+    (λ t. entriesOf (stored .0 t) (stored .1 t) (s .args .places))
+    ∙ set-entries (now (s .args .words)) (now (s .args .amounts)) (s .args .places) (s .args .at) (s .args .e) (s .pre .0) (s .pre .1)
+
+pub put-spec : {M : Type 1} → statement M
+put-spec = tie.close (tie.spec set-entry-requires same-length same-length-2 returns)

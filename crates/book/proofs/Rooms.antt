@@ -1,0 +1,72 @@
+-- Room for a ledger in words, and for what is kept of a file.
+--     used-room, run-room, run-sizes     what room for a run is to a ledger with so many entries in use
+--     same-tests                         the tests that read the ledger rest on the run's length and its used entries
+--     chain-room                         columns of zeros have room for the chains of a run
+--     file-room                          columns of zeros have room for the lines of a file and for its TH and OC
+-- Assumes nothing.
+use mathlib.Core.Path.{_≡_, refl, sym, subst}
+use mathlib.Core.Bool.{Bool, true, false, cond}
+use mathlib.Core.List.{List}
+use Prim.Native.Nat.{ℕ, _*_, _≤_}
+use native.Mathlib.Omega.{arith}
+use lib.IntN.{ℤ, pos}
+use lib.ListN.{length, take, replicate, length-replicate}
+use Rattle.entries.specs.Words.{RoomFor, entriesOf}
+use Rattle.bill_files.specs.Accepted.{BillFile}
+use Rattle.chains.specs.Chains.{ChainRoom}
+use Rattle.entries.proofs.Words.{length-entries, take-entries}
+use Rattle.entries.proofs.Room.{room-fewer}
+use Rattle.soundness.specs.Sound.{sizesFit, isSound}
+use Rattle.soundness.specs.Room.{LedgerRoom}
+use Rattle.soundness.proofs.Meaning.{sound-means}
+use Rattle.soundness.proofs.Sizes.{sizes-mean, room-in-use}
+use Rattle.booking.specs.Booking.{ledgerRefusals}
+use Rattle.book.specs.Book.{FileRoom}
+
+module _ (words : List ℕ) (amounts : List ℤ) (places used : ℕ) where
+  -- room for the run is room for what is read of it
+  pub used-room : LedgerRoom places places words amounts → LedgerRoom places used words amounts
+  used-room room = go (sizesFit places used) refl
+    where
+      go : (fit : Bool) → sizesFit places used ≡ fit → RoomFor (cond fit used 0) words amounts
+      go true e =
+          let h = sizes-mean places used .0 e in
+          room-fewer (h .1) (room-in-use {words = words} {amounts = amounts} places places (sizes-mean places places .1 (h .0, omega arith)) room)
+      go false e = record { in-words = omega arith; in-amounts = omega arith }
+
+  module _ (sound : isSound (entriesOf words amounts places) used ≡ true) where
+    pub run-sizes : (places ≤ 8192) × (used ≤ places)
+    run-sizes =
+        let means = sound-means (entriesOf words amounts places) used .0 sound in
+        subst (λ (n : ℕ). (n ≤ 8192) × (used ≤ n)) (length-entries words amounts places) (means .few, means .room)
+
+    pub run-room : LedgerRoom places places words amounts → RoomFor places words amounts
+    run-room = room-in-use {words = words} {amounts = amounts} places places (sizes-mean places places .1 (run-sizes .0, omega arith))
+
+-- the tests that read the ledger, told of the run and of its used entries
+pub same-tests : (words : List ℕ) (amounts : List ℤ) (places used : ℕ) (file : BillFile) → used ≤ places
+    → ledgerRefusals places (entriesOf words amounts used) file ≡ ledgerRefusals (length (entriesOf words amounts places)) (take used (entriesOf words amounts places)) file
+same-tests words amounts places used file h = λ t. ledgerRefusals (sym (length-entries words amounts places) t) (sym (take-entries words amounts used places h) t) file
+
+-- columns of zeros for the chains of a run
+pub chain-room : (places : ℕ) → places ≤ 8192 → ChainRoom places (replicate 8192 0) (replicate 8192 0)
+chain-room places h =
+    let long = length-replicate {A = ℕ} 8192 0 in
+    record { some = omega (arith, long); bounded = omega (arith, long); linkable = omega (arith, long); few = omega arith }
+
+pub file-room : (size n : ℕ) → n ≤ size → size ≤ 4096
+    → FileRoom n (replicate (size * 8) 0) (replicate size (pos 0)) (replicate size (pos 0)) (replicate (size * 9) 0) (replicate (size * 2) (pos 0)) (replicate size 0) (replicate size 0)
+file-room size n few most =
+    let lines = length-replicate {A = ℤ} size (pos 0) in
+    let numbers = length-replicate {A = ℕ} size 0 in
+    record {
+      columns-length = omega (arith, length-replicate {A = ℕ} (size * 8) 0, lines);
+      usages-length = refl;
+      few = omega (arith, lines);
+      most = omega (arith, lines);
+      bills = record {
+        entry-room = record { in-words = omega (arith, length-replicate {A = ℕ} (size * 9) 0); in-amounts = omega (arith, length-replicate {A = ℤ} (size * 2) (pos 0)) };
+        references-room = omega (arith, numbers);
+        at-room = omega (arith, numbers);
+      };
+    }

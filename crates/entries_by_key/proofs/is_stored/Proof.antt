@@ -1,0 +1,17 @@
+-- `entries_by_key::is_stored` meets its contract.
+-- Assumes nothing.
+use borrow.Author.Needs.{needs}
+use Rattle.booking.specs.Booking.{isStored}
+use Rattle.entries_by_key.specs.Searches.{wants}
+use Rattle.entries_by_key.proofs.is_stored.Statement.{statement}
+use Rattle.entries_by_key.proofs.is_stored.Tie as tie
+
+has-wanted-requires : tie.Need-has-wanted-requires
+has-wanted-requires c κs = search needs
+
+returns : tie.Need-returns
+unfolding wants isStored
+returns c = c .has-wanted .ensures
+
+pub is-stored-spec : {M : Type 1} → statement M
+is-stored-spec = tie.close (tie.spec has-wanted-requires returns)

@@ -1,0 +1,86 @@
+-- `file_bills::read_header` meets its contract: sender, commodity and Record ID are read from the first line, and the charge from the last line's column.
+-- Assumes nothing.
+use mathlib.Core.Bool.{Bool, cond}
+use mathlib.Core.List.{List, []}
+use mathlib.Core.Path.{_≡_, sym, ap, _∙_}
+use Prim.Native.Nat.{_<_, ℕ, _-_}
+use native.Mathlib.Omega.{arith}
+use mir.Syntax.{w64}
+use mir.Val.{toZ, ofZ}
+use denote.Ref.{now}
+use borrow.Author.Needs.{needs}
+use lib.IntN.{pos}
+use lib.ListN.{length, getD}
+use lib.Seq.{getD-take}
+use Rattle.lists.specs.Bytes.{sameBytes}
+use Rattle.lists.specs.Written.{written}
+use Rattle.digits.specs.Digits.{digitsOf}
+use Rattle.text.specs.Text.{linesOf, At}
+use Rattle.text.proofs.Placed.{placed-at}
+use Rattle.records.specs.Records.{field}
+use Rattle.columns.specs.Columns.{chargeIn}
+use Rattle.columns.proofs.Laws.{charge-at}
+use Rattle.format.specs.Format.{lineAt}
+use Rattle.bill_files.specs.Accepted.{numberOrZero, billFile}
+use Rattle.file_bills.proofs.read_header.Statement.{statement}
+use Rattle.file_bills.proofs.read_header.Tie as tie
+
+shared-slice-read-a : tie.Need-shared-slice-read-a
+shared-slice-read-a c = search needs
+
+shared-slice-read-e : tie.Need-shared-slice-read-e
+shared-slice-read-e c = search needs
+
+first : (s : tie.Start) → At (now (s .args .file)) (getD (now (s .args .starts)) 0 0) (getD (now (s .args .ends)) 0 0) (getD (linesOf (now (s .args .file))) 0 [])
+first s = placed-at (s .pre .placed) 0 (omega (arith, s .pre .some))
+
+number-in-requires : tie.Need-number-in-requires
+number-in-requires c κs = (first (c .before .before .before .before .before .before) .low, first (c .before .before .before .before .before .before) .high)
+
+number-in-requires-2 : tie.Need-number-in-requires-2
+number-in-requires-2 c κs = (first (c .before .before .before .before .before .before .before) .low, first (c .before .before .before .before .before .before .before) .high)
+
+is-electric-requires : tie.Need-is-electric-requires
+is-electric-requires c κs = (first (c .before .before .before .before .before .before .before .before) .low, first (c .before .before .before .before .before .before .before .before) .high)
+
+either-requires : tie.Need-either-requires
+either-requires c κs = search needs
+
+sub-last : tie.Need-sub-last
+sub-last c = search needs
+
+mul-charge : tie.Need-mul-charge
+mul-charge c = search needs
+
+shared-slice-copy-out-charge : tie.Need-shared-slice-copy-out-charge
+shared-slice-copy-out-charge c = search needs
+
+returns : tie.Need-returns
+unfolding billFile
+returns c =
+    let s = c .before .before .before .before .before .before .before .before .before .before .before in
+    let same = first s .same in
+    let lines = linesOf (now (s .args .file)) in
+    let last = s .args .n - 1 in
+    let low : last < s .args .n = omega (arith, s .pre .some) in
+    let bits : toZ w64 (ofZ w64 (getD (now (s .args .charges)) last (pos 0))) ≡ getD (now (s .args .charges)) last (pos 0) = search needs in
+    let charge : toZ w64 (ofZ w64 (getD (now (s .args .charges)) last (pos 0))) ≡ chargeIn (lineAt lines (length lines - 1)) = bits ∙ sym (getD-take (s .args .n) (now (s .args .charges)) last (pos 0) low) ∙ charge-at (s .pre .columns) (s .args .n) (s .pre .placed .count) last low ∙ ap (λ (k : ℕ). chargeIn (lineAt lines (k - 1))) (s .pre .placed .count) in
+    let sender = c .before .before .before .before .number-in .ensures ∙ ap (λ (l : List ℕ). numberOrZero (digitsOf (field 5 l))) same in
+    let id = c .before .before .before .number-in2 .ensures ∙ ap (λ (l : List ℕ). numberOrZero (digitsOf (field 1 l))) same in
+    let commodity = c .before .either .ensures ∙ ap (λ (t : Bool). cond t 1 2) (c .before .before .is-electric .ensures ∙ ap (λ (l : List ℕ). sameBytes (field 6 l) (written "EL")) same) in
+    λ t. record { sender = sender t; commodity = commodity t; kind = 1; id = id t; site = 0; start = 0; end = 0; charge = charge t; usage = pos 0; state = 0; cancels = 0 }
+
+pub read-header-spec : {M : Type 1} → statement M
+read-header-spec =
+    tie.close
+    (tie.spec
+    shared-slice-read-a
+    shared-slice-read-e
+    number-in-requires
+    number-in-requires-2
+    is-electric-requires
+    either-requires
+    sub-last
+    mul-charge
+    shared-slice-copy-out-charge
+    returns)

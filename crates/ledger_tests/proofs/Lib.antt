@@ -1,0 +1,5 @@
+pub mod Cancelled
+pub mod Naming
+pub mod Opposed
+pub mod Resumed
+pub mod Stored
