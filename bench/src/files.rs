@@ -1,7 +1,7 @@
 //! The files that Check is timed on. All but one pass every test.
 
+use crate::ledgers::REQUEST;
 use crate::longest::lengthen;
-use reference::bill::Commodity;
 use reference::fields::FieldType;
 use reference::file::{MOST_BYTES, MOST_LINES};
 use reference::generate::draft::{Draft, DraftRecord, LineEnd};
@@ -14,8 +14,6 @@ const RECORD_ID_LIMIT: u64 = 1_000_000_000_000_000;
 
 /// Site IDs have 13 digits.
 const SITE_LIMIT: u64 = 10_000_000_000_000;
-
-const REQUEST: Request = Request { sender: 0, commodity: Commodity::Electricity, sites: 1, periods: 1, one_time_sites: 0, cancels: 0 };
 
 /// How Record IDs and Site IDs are drawn.
 #[derive(Clone, Copy)]

@@ -8,7 +8,10 @@ use reference::ledger::Entry;
 use std::collections::HashMap;
 
 /// The senders of the files, who use the same Record IDs.
-const SENDERS: [u64; 3] = [40, 41, 7_000];
+pub const SENDERS: [u64; 3] = [40, 41, 7_000];
+
+/// A file of the first sender.
+pub const REQUEST: Request = Request { sender: 0, commodity: Commodity::Electricity, sites: 1, periods: 1, one_time_sites: 0, cancels: 0 };
 
 /// How many buckets the proved code's hash table has for the keys of more than 1,024 entries.
 const BUCKETS: u64 = 16_384;
@@ -25,7 +28,7 @@ fn bucket(sender: u64, record_id: u64) -> u64 {
 
 /// Draws ledgers, each another one.
 pub struct Ledgers {
-    generator: Generator,
+    pub generator: Generator,
 }
 
 impl Ledgers {

@@ -1,19 +1,22 @@
-//! Check and the soundness of ledgers, the proved functions beside the reference implementation.
+//! Check, the soundness of ledgers and Book, the proved functions beside the reference implementation.
 //!
-//! `cargo run --release --offline` times both sides in one run: medians of 11, each on a fresh input, and their ratios.
+//! `cargo run --release --offline` times both sides in one run: medians of 11, each on a fresh input, and their ratios. Book is timed
+//! where it is the proved function (feature `book`); `cargo run --release --offline -- bookings` times it alone, whatever it is.
 //!
 //! `cargo run --release --offline -- profile SIDE N` calls one side N times on one input and prints nothing, for a profiler. SIDE
 //! is `proved-check` or `reference-check` (a file of 4,096 lines and many sites), one of these two with `-of-one-site` at its end,
-//! `proved-soundness` or `reference-soundness` (a ledger of 8,192 entries), or one of these two with `-of-1000` at its end (a ledger
-//! of 1,000 entries). The instructions of a call are those of N = 11 without those of N = 1, divided by 10:
+//! `proved-soundness` or `reference-soundness` (a ledger of 8,192 entries), one of these two with `-of-1000` at its end (a ledger
+//! of 1,000 entries), or `proved-book` or `reference-book` (100 periods into a ledger of 8,000 entries). The instructions of a call are those of N = 11 without those of N = 1, divided by 10:
 //! `valgrind --tool=callgrind target/release/bench profile reference-check 11`.
 
+mod booking;
 mod files;
 mod hurt;
 mod ledgers;
 mod longest;
 mod timing;
 
+use booking::{Booking, Bookings};
 use compare::proved;
 use files::{Files, Ids};
 use hurt::LATE_FAILURES;
@@ -23,13 +26,16 @@ use reference::file::RecordType;
 use reference::generate::RETAILER;
 use reference::ledger::{sound, Entry};
 use std::hint::black_box;
-use timing::{medians, medians_of_kinds, report, report_growth, Medians};
+use timing::{medians, medians_of_kinds, medians_of_restored_kinds, report, report_growth, Medians};
 
 const DISTRIBUTORS: &[u8] = b"0040";
 
 const LINES: [usize; 3] = [256, 1_024, 4_096];
 
 const ENTRIES: [usize; 3] = [1_000, 4_000, 8_192];
+
+/// The entries in use of the ledgers that a file is booked into.
+const USED: [usize; 3] = [1_000, 4_000, 8_000];
 
 /// The number and line of a passing file.
 const PASSES: (u32, u32) = (0, 0);
@@ -125,6 +131,26 @@ fn report_soundness() {
     report("soundness, 8192 entries, keys in one bucket", &medians(one_bucket, true, proved_sound, reference_sound));
 }
 
+/// Times bookings that are accepted or that a number refuses.
+fn report_booking(what: &str, number: u32, mut draw: impl FnMut() -> Booking) {
+    let [medians] = medians_of_restored_kinds(|_| draw(), number, Booking::restore, Booking::by_proved, Booking::by_reference);
+    report(&format!("book, {what}"), &medians);
+}
+
+fn report_bookings() {
+    let mut bookings = Bookings::new();
+    let draw = |size: usize| bookings.periods(100, USED[size]);
+    let sizes: [Medians; 3] = medians_of_restored_kinds(draw, 0, Booking::restore, Booking::by_proved, Booking::by_reference);
+    for (used, medians) in USED.iter().zip(&sizes) {
+        report(&format!("book, 100 periods into {used} entries"), medians);
+    }
+    report_growth("book, 100 periods, from 1000 to 8000 entries", &sizes[0], &sizes[2]);
+    report_booking("4096 lines into an empty ledger", 0, || bookings.most_lines());
+    report_booking("1000 cancels into 4001 entries", 0, || bookings.cancels(1_000, 3_000));
+    report_booking("1000 cancels into 4001 entries, refused by 39 at the last", 39, || bookings.cancels_without_the_last(1_000, 3_000));
+    report_booking("4093 periods of one site into a ledger with as many of it", 0, || bookings.one_site());
+}
+
 /// Calls one side so many times on one input.
 fn profile(side: &str, calls: usize) {
     let file = || Files::new().many_sites(4_096, Ids::Rising);
@@ -140,6 +166,8 @@ fn profile(side: &str, calls: usize) {
         "reference-soundness" => repeat(calls, &ledger(), reference_sound),
         "proved-soundness-of-1000" => repeat(calls, &small_ledger(), proved_sound),
         "reference-soundness-of-1000" => repeat(calls, &small_ledger(), reference_sound),
+        "proved-book" => repeat_bookings(calls, Booking::by_proved),
+        "reference-book" => repeat_bookings(calls, Booking::by_reference),
         _ => panic!("no side is called {side}"),
     }
 }
@@ -150,6 +178,15 @@ fn repeat<Input, Answer>(calls: usize, input: &Input, call: impl Fn(&Input) -> A
     }
 }
 
+fn repeat_bookings(calls: usize, book: impl Fn(&Booking) -> u32) {
+    let booking = Bookings::new().periods(100, 8_000);
+    repeat(calls, &booking, |booking| {
+        let number = book(booking);
+        booking.restore();
+        number
+    });
+}
+
 fn main() {
     let arguments: Vec<String> = std::env::args().skip(1).collect();
     match &arguments[..] {
@@ -157,8 +194,10 @@ fn main() {
             report_checks();
             report_hurt();
             report_soundness();
+            report_bookings();
         }
+        [command] if command == "bookings" => report_bookings(),
         [command, side, calls] if command == "profile" => profile(side, calls.parse().expect("N is a number")),
-        _ => panic!("usage: bench [profile SIDE N]"),
+        _ => panic!("usage: bench [bookings | profile SIDE N]"),
     }
 }

@@ -37,12 +37,15 @@ fn running_time() -> f64 {
 }
 
 /// The answer and the time of a side on a fresh input, in microseconds. It is called on an earlier input first, so that it finds
-/// its own code and memory in the cache, and not those of the other side.
-fn timed<Input, Answer>(side: impl Fn(&Input) -> Answer, earlier: &Input, fresh: &Input) -> (Answer, f64) {
+/// its own code and memory in the cache, and not those of the other side. Each input is restored after its call.
+fn timed<Input, Answer>(side: impl Fn(&Input) -> Answer, restore: impl Fn(&Input), earlier: &Input, fresh: &Input) -> (Answer, f64) {
     black_box(side(black_box(earlier)));
+    restore(earlier);
     let start = running_time();
     let answer = black_box(side(black_box(fresh)));
-    (answer, running_time() - start)
+    let time = running_time() - start;
+    restore(fresh);
+    (answer, time)
 }
 
 fn median(mut times: Vec<f64>) -> f64 {
@@ -61,9 +64,12 @@ struct Kind<Input> {
 /// cache, so each side is the first on every other input. Both must give the expected answer.
 ///
 /// There may be several kinds of inputs, say of several sizes. They take turns: where the machine changes its speed, it does so for all.
-pub fn medians_of_kinds<const KINDS: usize, Input, Answer: PartialEq + Debug>(
+///
+/// A call may change its input, which `restore` makes as it was, in time that doesn't count.
+pub fn medians_of_restored_kinds<const KINDS: usize, Input, Answer: PartialEq + Debug>(
     mut draw: impl FnMut(usize) -> Input,
     expected: Answer,
+    restore: impl Fn(&Input),
     proved: impl Fn(&Input) -> Answer,
     reference: impl Fn(&Input) -> Answer,
 ) -> [Medians; KINDS] {
@@ -74,7 +80,7 @@ pub fn medians_of_kinds<const KINDS: usize, Input, Answer: PartialEq + Debug>(
             let mut sides = [(&proved as &dyn Fn(&Input) -> Answer, &mut kind.proved), (&reference, &mut kind.reference)];
             sides.rotate_left(turn % 2);
             for (side, times) in sides {
-                let (answer, time) = timed(side, &kind.earlier, &fresh);
+                let (answer, time) = timed(side, &restore, &kind.earlier, &fresh);
                 assert_eq!(answer, expected);
                 times.push(time);
             }
@@ -82,6 +88,16 @@ pub fn medians_of_kinds<const KINDS: usize, Input, Answer: PartialEq + Debug>(
         }
     }
     kinds.map(|kind| Medians { proved: median(kind.proved), reference: median(kind.reference) })
+}
+
+/// The same for calls that change nothing.
+pub fn medians_of_kinds<const KINDS: usize, Input, Answer: PartialEq + Debug>(
+    draw: impl FnMut(usize) -> Input,
+    expected: Answer,
+    proved: impl Fn(&Input) -> Answer,
+    reference: impl Fn(&Input) -> Answer,
+) -> [Medians; KINDS] {
+    medians_of_restored_kinds(draw, expected, |_| {}, proved, reference)
 }
 
 /// The same for inputs of one kind.

@@ -2,6 +2,7 @@
 
 use crate::tally::Tally;
 use compare::proved::Words;
+use reference::generate::random::Random;
 use reference::generate::scenario::SENTENCES;
 use reference::generate::{Generator, Style, DISTRIBUTOR};
 use reference::ledger::{find, first_broken, sound, totals, Entry, Totals};
@@ -59,8 +60,7 @@ fn questions(generator: &mut Generator, run: &[Entry], used: usize) -> Vec<(u64,
 }
 
 /// Changes one field of one entry, or the order of two.
-fn change(generator: &mut Generator, run: &mut [Entry], used: usize) {
-    let random = &mut generator.random;
+pub fn change(random: &mut Random, run: &mut [Entry], used: usize) {
     let place = random.place(used);
     let other = run[random.place(used)];
     let entry = &mut run[place];
@@ -98,7 +98,7 @@ pub fn compare(seed: u64) -> u64 {
         comparison.hold(&run[..used], used, &asked);
         for _ in 0..if used == 0 { 0 } else { CHANGES } {
             let mut changed = run.clone();
-            change(&mut generator, &mut changed, used);
+            change(&mut generator.random, &mut changed, used);
             let asked = questions(&mut generator, &changed, used);
             comparison.hold(&changed, used, &asked);
         }

@@ -1,3 +1,5 @@
 //! The proved functions, for the comparison and the benchmark.
 
 pub mod proved;
+
+pub use proved::book;

@@ -1,5 +1,7 @@
 //! The proved functions, as the static library exports them, behind safe functions.
 
+use reference::booking::Answer;
+use reference::check::{Refusal, Settings};
 use reference::ledger::{Entry, StateTotals, Totals, MOST_ENTRIES};
 
 mod exported {
@@ -14,8 +16,39 @@ mod exported {
         pub fn comparison_shares_day(start: u64, end: u64, other_start: u64, other_end: u64) -> u64;
         pub fn ledger_sound(words: *const u64, words_len: usize, amounts: *const i64, amounts_len: usize, places: usize, used: usize) -> u64;
         pub fn ledger_totals(words: *const u64, words_len: usize, amounts: *const i64, amounts_len: usize, places: usize, used: usize) -> u64;
-        pub fn ledger_total(words: *const u64, words_len: usize, amounts: *const i64, amounts_len: usize, places: usize, used: usize, state: u64, which: u64) -> i64;
-        pub fn ledger_find(words: *const u64, words_len: usize, amounts: *const i64, amounts_len: usize, places: usize, used: usize, site: u64, day: u64) -> u64;
+        pub fn ledger_total(
+            words: *const u64,
+            words_len: usize,
+            amounts: *const i64,
+            amounts_len: usize,
+            places: usize,
+            used: usize,
+            state: u64,
+            which: u64,
+        ) -> i64;
+        pub fn ledger_find(
+            words: *const u64,
+            words_len: usize,
+            amounts: *const i64,
+            amounts_len: usize,
+            places: usize,
+            used: usize,
+            site: u64,
+            day: u64,
+        ) -> u64;
+        pub fn ledger_book(
+            retailer: u64,
+            distributors: *const u8,
+            distributors_len: usize,
+            file: *const u8,
+            file_len: usize,
+            words: *mut u64,
+            words_len: usize,
+            amounts: *mut i64,
+            amounts_len: usize,
+            places: usize,
+            used: usize,
+        ) -> u64;
     }
 }
 
@@ -87,23 +120,91 @@ pub fn shares_day(one: (u64, u64), other: (u64, u64)) -> bool {
     unsafe { exported::comparison_shares_day(one.0, one.1, other.0, other.1) == 1 }
 }
 
-/// A ledger in words, nine and two amounts an entry, with room for 8,192 entries.
+/// Book of a file with settings, over words that hold a run of so many places, so many of them used.
+pub type Book = fn(words: &mut Words, places: usize, used: usize, settings: Settings, file: &[u8]) -> Answer;
+
+pub fn book(words: &mut Words, places: usize, used: usize, settings: Settings, file: &[u8]) -> Answer {
+    let Settings { retailer, distributors } = settings;
+    let Words { words, amounts } = words;
+    book_answer(unsafe {
+        exported::ledger_book(
+            retailer,
+            distributors.as_ptr(),
+            distributors.len(),
+            file.as_ptr(),
+            file.len(),
+            words.as_mut_ptr(),
+            words.len(),
+            amounts.as_mut_ptr(),
+            amounts.len(),
+            places,
+            used,
+        )
+    })
+}
+
+/// The answer of Book: the refusal's number and line, or 65,536 times the number of entries added, and the number of them held. A file
+/// adds two entries at least.
+fn book_answer(answer: u64) -> Answer {
+    match ((answer >> 32) as u32, answer as u32) {
+        (0, 1) => panic!("the words have no room for the run"),
+        (0, counts) => Answer::Booked { added: (counts >> 16) as usize, held: (counts & 0xffff) as usize },
+        (number, line) => Answer::Refused(Refusal { number, line }),
+    }
+}
+
+/// A ledger in words, nine and two amounts an entry.
 pub struct Words {
     words: Vec<u64>,
     amounts: Vec<i64>,
 }
 
 impl Words {
+    /// Words with room for 8,192 entries.
     pub fn new() -> Words {
-        Words { words: vec![0; 9 * MOST_ENTRIES], amounts: vec![0; 2 * MOST_ENTRIES] }
+        Words::with_room(MOST_ENTRIES)
     }
 
-    /// Puts the entries of a run, at most 8,192, into the words.
+    /// Words with room for so many entries.
+    pub fn with_room(entries: usize) -> Words {
+        Words { words: vec![0; 9 * entries], amounts: vec![0; 2 * entries] }
+    }
+
+    /// The number of entries that there is room for.
+    pub fn room(&self) -> usize {
+        self.amounts.len() / 2
+    }
+
+    /// Puts the entries of a run into the words, as many as there is room for.
     pub fn fill(&mut self, run: &[Entry]) {
-        for (place, entry) in run.iter().take(MOST_ENTRIES).enumerate() {
-            let words = [entry.sender, entry.commodity, entry.kind, entry.record_id, entry.site, entry.start, entry.end, entry.state, entry.cancelled_id];
-            self.words[9 * place..9 * place + 9].copy_from_slice(&words);
-            self.amounts[2 * place..2 * place + 2].copy_from_slice(&[entry.charge, entry.usage]);
+        for (place, entry) in run.iter().take(self.room()).enumerate() {
+            self.set(place, entry);
+        }
+    }
+
+    /// Puts an entry into its words.
+    pub fn set(&mut self, place: usize, entry: &Entry) {
+        let words = [entry.sender, entry.commodity, entry.kind, entry.record_id, entry.site, entry.start, entry.end, entry.state, entry.cancelled_id];
+        self.words[9 * place..9 * place + 9].copy_from_slice(&words);
+        self.amounts[2 * place..2 * place + 2].copy_from_slice(&[entry.charge, entry.usage]);
+    }
+
+    /// The entry in its words.
+    pub fn entry(&self, place: usize) -> Entry {
+        let words = &self.words[9 * place..9 * place + 9];
+        let amounts = &self.amounts[2 * place..2 * place + 2];
+        Entry {
+            sender: words[0],
+            commodity: words[1],
+            kind: words[2],
+            record_id: words[3],
+            site: words[4],
+            start: words[5],
+            end: words[6],
+            state: words[7],
+            cancelled_id: words[8],
+            charge: amounts[0],
+            usage: amounts[1],
         }
     }
 
@@ -123,7 +224,9 @@ impl Words {
         if number != 0 {
             return Err(number as u32);
         }
-        let total = |state, which| unsafe { exported::ledger_total(words.as_ptr(), words.len(), amounts.as_ptr(), amounts.len(), places, used, state, which) };
+        let total = |state, which| unsafe {
+            exported::ledger_total(words.as_ptr(), words.len(), amounts.as_ptr(), amounts.len(), places, used, state, which)
+        };
         let of_state = |state| StateTotals { charge: total(state, 0), usage_kwh: total(state, 1), usage_gj: total(state, 2) };
         Ok(Totals { live: of_state(1), held: of_state(2) })
     }

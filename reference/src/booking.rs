@@ -55,7 +55,7 @@ fn try_book(
     booking.cancels_are_opposites(run, &named)?;
     booking.ids_are_new(&ledger.places)?;
     booking.fits_into(run.len() - used)?;
-    Ok(booking.append_to(run, used, &named, &ledger.live_periods))
+    Ok(booking.append_to(run, used, &named, ledger.live_periods))
 }
 
 /// A record to book: the place of its line, from 0, and its entry, whose state
@@ -157,19 +157,22 @@ impl Booking {
         run: &mut [Entry],
         used: usize,
         named: &[usize],
-        live_periods: &LivePeriods,
+        mut live_periods: LivePeriods,
     ) -> (usize, usize) {
         for &place in named {
             run[place] = run[place].cancelled();
         }
-        let (stored, free) = run.split_at_mut(used);
-        let mut live = LiveAtTurn { stored, live_periods, added: BTreeMap::new() };
+        if !named.is_empty() {
+            live_periods.drop_cancelled(run);
+        }
+        let mut live = LiveAtTurn { stored: live_periods, added: BTreeMap::new() };
         let file_entry = std::iter::once(self.file_entry);
         let cancels = self.cancels.iter().map(|record| record.entry);
         let originals = self.originals.iter().map(|record| live.take_original(record.entry));
         let mut added = 0;
         let mut held = 0;
-        for (entry, free_place) in file_entry.chain(cancels).chain(originals).zip(free) {
+        for (entry, free_place) in file_entry.chain(cancels).chain(originals).zip(&mut run[used..])
+        {
             *free_place = entry;
             added += 1;
             held += usize::from(entry.state == state::HELD);
@@ -179,15 +182,15 @@ impl Booking {
 }
 
 /// The live periods at an original's turn.
-struct LiveAtTurn<'a> {
-    stored: &'a [Entry],
-    live_periods: &'a LivePeriods,
+struct LiveAtTurn {
+    /// Those of the ledger that no cancel of this file names.
+    stored: LivePeriods,
     /// The end days of the periods that this file has made live, by site and
     /// start day.
     added: BTreeMap<(u64, u64), u64>,
 }
 
-impl LiveAtTurn<'_> {
+impl LiveAtTurn {
     /// "An original period is held if it shares a day with a live period of
     /// its site at that moment, whoever sent either; otherwise live. Original
     /// one-time charges are live."
@@ -205,7 +208,7 @@ impl LiveAtTurn<'_> {
     fn holds(&self, site: u64, period: Period) -> bool {
         let nearest_added = self.added.range((site, 0)..=(site, period.1)).next_back();
         nearest_added.is_some_and(|(&(_, start), &end)| shares_day((start, end), period))
-            || self.live_periods.sharing_a_day(self.stored, site, period).is_some()
+            || self.stored.share_a_day(site, period)
     }
 }
 

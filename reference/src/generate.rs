@@ -1,10 +1,12 @@
 //! Deterministic generation of files and ledgers to compare with: valid files
 //! that build on earlier accepted ones, files damaged so that one test is the
-//! first to fail, bytes at random, and unsound ledgers.
+//! first to fail, bytes at random, unsound ledgers, and lists of bookings.
 
+pub mod cancels;
 pub mod content;
 pub mod damage;
 pub mod draft;
+pub mod history;
 pub mod puzzle;
 pub mod random;
 pub mod samples;
@@ -238,6 +240,45 @@ impl Generator {
         self.draft(request, &[plan])
     }
 
+    /// A valid file of so many original periods, each of a site of its own,
+    /// which earlier files may have billed, with one usage and one charge.
+    pub fn valid_of_periods(&mut self, request: &Request, periods: usize) -> Draft {
+        let mut plans = Vec::new();
+        for _ in 0..periods {
+            let course = self.site_to_bill(request, &plans);
+            let days = self.next_days(request, course);
+            let mut plan = SitePlan::new(self.courses[course].site);
+            let body = self.content(request.commodity).period_of_lines(plan.site, days, 3);
+            plan.billing_period = Some(days);
+            plan.periods.push(Item { body, cancels: None });
+            plans.push(plan);
+        }
+        self.draft(request, &plans)
+    }
+
+    /// A valid file that cancels all originals of the sender and commodity
+    /// that were accepted, without rebills.
+    pub fn valid_of_cancels(&mut self, request: &Request) -> Draft {
+        let sender = self.senders[request.sender];
+        let mut plans = Vec::new();
+        for sent in &self.sent {
+            if sent.sender != sender || sent.commodity != request.commodity {
+                continue;
+            }
+            let cancels = Some(sent.record_id);
+            match sent.original.clone() {
+                Original::Period(body) => {
+                    plan_of_site(&mut plans, body.site).periods.push(Item { body, cancels });
+                }
+                Original::OneTime(body) => {
+                    let plan = plan_of_site(&mut plans, body.site);
+                    plan.one_time_charges.push(Item { body, cancels });
+                }
+            }
+        }
+        self.draft(request, &plans)
+    }
+
     /// Takes note that a file was accepted, so that later ones may cancel its
     /// originals.
     pub fn accept(&mut self, draft: &Draft) {
@@ -271,14 +312,13 @@ impl Generator {
     /// Cancels of earlier originals, most with a rebill.
     fn plan_cancels(&mut self, request: &Request, plans: &mut Vec<SitePlan>) {
         let sender = self.senders[request.sender];
-        let mut open: Vec<Sent> = self
-            .sent
-            .iter()
-            .filter(|sent| sent.sender == sender && sent.commodity == request.commodity)
-            .cloned()
-            .collect();
+        let can_be_cancelled =
+            |sent: &Sent| sent.sender == sender && sent.commodity == request.commodity;
+        let mut open: Vec<usize> =
+            (0..self.sent.len()).filter(|&place| can_be_cancelled(&self.sent[place])).collect();
         for _ in 0..request.cancels.min(open.len()) {
-            let sent = open.swap_remove(self.random.place(open.len()));
+            let place = open.swap_remove(self.random.place(open.len()));
+            let sent = self.sent[place].clone();
             let rebills = self.style == Style::Sample || self.random.percent(70);
             match sent.original {
                 Original::Period(period) => {

@@ -15,6 +15,7 @@ pub mod desk;
 pub mod fields;
 pub mod file;
 pub mod generate;
+pub mod judge;
 pub mod ledger;
 pub mod periods;
 pub mod plain;

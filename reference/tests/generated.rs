@@ -6,10 +6,13 @@ use reference::bill::Bill;
 use reference::booking::{book, Answer};
 use reference::check::{check, Refusal};
 use reference::file::{RecordType, Records};
+use reference::generate::cancels::{Mistake, MISTAKES};
 use reference::generate::damage::CHECK_TESTS;
+use reference::generate::history::{any_run, Call, History};
 use reference::generate::random::Random;
 use reference::generate::scenario::{LEDGER_NUMBERS, SENTENCES};
 use reference::generate::{Generator, Request, Style, RETAILER};
+use reference::judge;
 use reference::ledger::{first_broken, kind, sound, state, Entry};
 use reference::periods::shares_day;
 use reference::plain;
@@ -24,10 +27,21 @@ fn both_checks(distributors: &[u8], file: &[u8]) -> (u32, u32) {
 
 /// Books by both forms, which must leave the same answer and the same run.
 fn both_books(distributors: &[u8], file: &[u8], run: &mut [Entry], used: usize) -> Answer {
+    both_books_of(RETAILER, distributors, file, run, used)
+}
+
+/// The same with the retailer of the settings.
+fn both_books_of(
+    retailer: u64,
+    distributors: &[u8],
+    file: &[u8],
+    run: &mut [Entry],
+    used: usize,
+) -> Answer {
     let before = run.to_vec();
     let mut plain_run = before.clone();
-    let answer = book(RETAILER, distributors, file, run, used);
-    assert_eq!(plain::book(RETAILER, distributors, file, &mut plain_run, used), answer);
+    let answer = book(retailer, distributors, file, run, used);
+    assert_eq!(plain::book(retailer, distributors, file, &mut plain_run, used), answer);
     assert!(run == plain_run);
     match answer {
         Answer::Refused(_) => assert!(run == before),
@@ -235,6 +249,67 @@ fn archive_guarantee() {
         }
     }
     assert!(held_in_all > 100, "{held_in_all}");
+}
+
+/// Lists of bookings: both forms agree call by call, and demand 3 is kept.
+#[test]
+fn histories() {
+    let mut answers = std::collections::BTreeMap::new();
+    for seed in 0..200 {
+        let mut history = History::new(seed);
+        let length = history.random().place(300);
+        let mut run = any_run(history.random(), length, &[]);
+        let mut used = 0;
+        let mut files = Vec::new();
+        for _ in 0..25 {
+            let Call { retailer, distributors, file } = history.next_call(&run[..used]);
+            let answer = both_books_of(retailer, &distributors, &file, &mut run, used);
+            if let Answer::Booked { added, .. } = answer {
+                used += added;
+                history.accepted(&run[..used]);
+            }
+            *answers.entry(number_of(answer)).or_insert(0) += 1;
+            files.push((file, number_of(answer) == 0));
+        }
+        let calls: Vec<judge::Call> = files
+            .iter()
+            .map(|(file, accepted)| judge::Call { file, accepted: *accepted })
+            .collect();
+        assert_eq!(judge::judge(&calls, &run, used), Ok(()), "seed {seed}");
+    }
+    for number in [0, 104, 103, 8, 39, 40, 102, 101].into_iter().chain(CHECK_TESTS) {
+        assert!(answers.contains_key(&number), "{number}: {answers:?}");
+    }
+    assert!(!answers.contains_key(&105));
+}
+
+/// Cancels without a mistake are booked, and a mistake is seen by its test.
+/// Of a one-time charge neither days nor usage are compared. Now and then a
+/// record under a cancel is of another site, or a Record ID is 0, which may be
+/// stored.
+#[test]
+fn cancel_files() {
+    let wanted = |mistake: Option<Mistake>| match mistake {
+        None => 0,
+        Some(Mistake::OtherCharge | Mistake::OtherUsage) => 40,
+        Some(_) => 39,
+    };
+    for mistake in MISTAKES.map(Some).into_iter().chain([None]) {
+        let mut met = 0;
+        for seed in 0..40 {
+            let mut generator = Generator::with_senders(seed, Style::Varied, &SENDERS);
+            let distributors = generator.distributors();
+            let (mut run, used) = generator.ledger(256, 8);
+            let file = generator.cancel_file(&run[..used], mistake, 1_000_000_000_000).unwrap();
+            let number = number_of(both_books(&distributors, &file, &mut run, used));
+            assert!(
+                [0, 8, 38, 102, wanted(mistake)].contains(&number),
+                "seed {seed}, {mistake:?}: {number}"
+            );
+            met += usize::from(number == wanted(mistake));
+        }
+        assert!(met >= 20, "{mistake:?}: {met}");
+    }
 }
 
 #[test]

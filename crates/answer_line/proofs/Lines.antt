@@ -2,17 +2,21 @@
 --     number-piece                        what is still to be written, after a number and the byte after it
 --     accepted-length, rejected-length    how long a line is
 --     accepted-is, rejected-is, zero-is   the line of each case of an answer
+--     line-short                          no line is longer than 72 bytes
 -- Assumes nothing.
 use mathlib.Core.Path.{_≡_, sym, _∙_, ap}
+use mathlib.Core.Bool.{Bool, true, false, cond}
 use mathlib.Core.List.{List, [], _∷_, _++_, append-assoc}
 use Prim.Native.Nat.{ℕ, _+_, _≤_}
 use native.Mathlib.Omega.{arith}
 use borrow.Author.Tests.{eq-eqb, ne-eqb}
+use lib.Dec.{eqb}
 use lib.ListN.{length, length-append}
 use Rattle.booking.specs.declared.Answer.{Answer}
 use Rattle.booking.specs.declared.Answer.the-variants.{Refused, Accepted}
-use Rattle.booking.specs.Booking.{resultOf}
+use Rattle.booking.specs.Booking.{Result, resultOf}
 use Rattle.writing.specs.Writing.{writtenAt, plainDigits}
+use Rattle.writing.proofs.Numbers.{plain-short}
 use Rattle.writing.proofs.Places.{piece}
 use Rattle.answer_line.specs.Line.{codeNumber, parted, acceptedLine, rejectedLine, lineOf}
 
@@ -44,3 +48,13 @@ module _ {answer : Answer} where
   pub zero-is : (number line : ℕ) → answer ≡ Refused number line → number ≡ 0 → acceptedLine 0 0 ≡ lineOf (resultOf answer)
   unfolding lineOf
   zero-is number line e h = rw (e, eq-eqb number 0 h)
+
+-- a line fits the room that the functions ask for
+pub line-short : (r : Result) → length (lineOf r) ≤ 72
+unfolding lineOf
+line-short r = go (eqb (r .number) 0)
+  where
+    go : (accepted : Bool) → length (cond accepted (acceptedLine (r .added) (r .held)) (rejectedLine (r .number) (codeNumber (r .number)) (r .line))) ≤ 72
+    go true = omega (arith, accepted-length (r .added) (r .held), plain-short (r .added), plain-short (r .held))
+    go false =
+        omega (arith, rejected-length (r .number) (codeNumber (r .number)) (r .line), plain-short (r .number), plain-short (codeNumber (r .number)), plain-short (r .line))

@@ -7,7 +7,7 @@ use crate::fields::FieldType;
 use crate::file::{Mark, RecordType, MOST_BYTES, MOST_LINES};
 use crate::generate::draft::{Draft, DraftRecord};
 use crate::generate::random::Random;
-use crate::generate::{Generator, MOST_TRIES, RETAILER};
+use crate::generate::{Generator, Request, MOST_TRIES, RETAILER};
 
 /// The tests of Check, in their order.
 pub const CHECK_TESTS: [u32; 19] =
@@ -20,19 +20,24 @@ impl Generator {
         let distributors = self.distributors();
         for _ in 0..MOST_TRIES {
             let request = self.full_request();
-            let mut draft = self.valid(&request);
-            let file = if test == 2 {
-                let file = self.write(&draft);
-                break_format(&mut self.random, file)
-            } else {
-                damage(&mut self.random, &mut draft, test, &distributors);
-                self.write(&draft)
-            };
+            let file = self.damaged_once(&request, test);
             if check(RETAILER, &distributors, &file).0 == test {
                 return file;
             }
         }
         panic!("no damage makes test {test} the first failure");
+    }
+
+    /// A valid file, damaged for a test of Check. The damage may miss.
+    pub fn damaged_once(&mut self, request: &Request, test: u32) -> Vec<u8> {
+        let distributors = self.distributors();
+        let mut draft = self.valid(request);
+        if test == 2 {
+            let file = self.write(&draft);
+            return break_format(&mut self.random, file);
+        }
+        damage(&mut self.random, &mut draft, test, &distributors);
+        self.write(&draft)
     }
 
     /// A file with one to four edits at random places.

@@ -18,65 +18,50 @@ const FIRST_DAY: u64 = 100;
 /// So many days.
 const DAYS: u64 = 14;
 
+/// The Record IDs of a puzzle are below this: so few that they repeat often.
+const FEW_IDS: u64 = 400;
+
 /// A TH or OC to be written: its site, days and amounts, and what it cancels.
-struct Item {
-    site: u64,
-    days: (u64, u64),
-    charge: i64,
-    usage: i64,
-    is_cancel: bool,
-    reference: Option<u64>,
+#[derive(Clone)]
+pub(super) struct Item {
+    pub(super) site: u64,
+    pub(super) days: (u64, u64),
+    pub(super) charge: i64,
+    pub(super) usage: i64,
+    pub(super) is_cancel: bool,
+    pub(super) reference: Option<u64>,
 }
 
 impl Generator {
     /// A puzzle, some of whose cancels name stored entries. Most pass Check.
     pub fn puzzle(&mut self, stored: &[Entry]) -> Vec<u8> {
+        self.puzzle_with_ids(stored, FEW_IDS)
+    }
+
+    /// The same with Record IDs below a limit, at least 400.
+    pub fn puzzle_with_ids(&mut self, stored: &[Entry], id_limit: u64) -> Vec<u8> {
         let sender = self.senders[self.random.place(self.senders.len())];
         let commodity = match self.random.percent(85) {
             true => Commodity::Electricity,
             false => Commodity::NaturalGas,
         };
-        let mut draft = Draft {
-            sender,
-            commodity,
-            records: vec![self.puzzle_header(sender, commodity)],
-            originals: Vec::new(),
-            cancelled: Vec::new(),
-        };
+        let mut draft = puzzle_draft(sender, commodity);
         for _ in 0..self.random.between(1, 3) {
             self.add_site(&mut draft, stored);
         }
         draft.records.push(DraftRecord::new(RecordType::FileTrailer));
-        self.set_puzzle_ids(&mut draft);
+        self.set_puzzle_ids(&mut draft, id_limit);
         set_totals(&mut draft);
         self.disturb(&mut draft);
         self.write(&draft)
-    }
-
-    fn puzzle_header(&mut self, sender: u64, commodity: Commodity) -> DraftRecord {
-        let mut header = DraftRecord::new(RecordType::FileHeader);
-        header.set(4, format!("{RETAILER:09}"));
-        header.set(5, format!("{sender:04}"));
-        header.set(6, commodity.code());
-        header.set(7, format!("{}000000", date((FIRST_DAY + DAYS) as u32)));
-        header
     }
 
     /// A site header with up to three periods and two one-time charges.
     fn add_site(&mut self, draft: &mut Draft, stored: &[Entry]) {
         let site = self.random.between(1, SITES);
         let billing_period = self.some_days();
-        let mut header = DraftRecord::new(RecordType::SiteHeader);
-        header.set(4, site_text(site));
-        if self.random.percent(75) {
-            set_days(&mut header, billing_period);
-        }
-        header.set(7, format!("{:04}", draft.sender));
-        header.set(8, "0001");
-        header.set(9, "98");
-        header.set(11, "C1");
-        header.set(13, draft.commodity.usage_unit());
-        header.set(16, "2020");
+        let is_billed = self.random.percent(75);
+        let header = puzzle_site_header(draft, site, is_billed.then_some(billing_period));
         draft.records.push(header);
         let periods = self.random.below(4);
         let one_time_charges = self.random.below(3).max(u64::from(periods == 0));
@@ -90,7 +75,7 @@ impl Generator {
         }
     }
 
-    fn some_days(&mut self) -> (u64, u64) {
+    pub(super) fn some_days(&mut self) -> (u64, u64) {
         let first = self.random.below(DAYS);
         let last = self.random.between(first, DAYS - 1);
         (FIRST_DAY + first, FIRST_DAY + last)
@@ -145,7 +130,7 @@ impl Generator {
     }
 
     /// A period with its usage and charge in one or two records each.
-    fn add_period(&mut self, draft: &mut Draft, item: &Item) {
+    pub(super) fn add_period(&mut self, draft: &mut Draft, item: &Item) {
         draft.records.push(period_header(draft.commodity, item));
         for part in self.amount_parts(item.usage) {
             let mut record = dated(RecordType::UsageDeterminant, self.child_site(item), item);
@@ -193,17 +178,31 @@ impl Generator {
         }
     }
 
-    /// Different Record IDs from a small range, and the Parent IDs.
-    fn set_puzzle_ids(&mut self, draft: &mut Draft) {
-        let mut free: Vec<u64> = (0..400).collect();
+    /// Different Record IDs below a limit, and the Parent IDs.
+    pub(super) fn set_puzzle_ids(&mut self, draft: &mut Draft, id_limit: u64) {
+        let mut taken = Vec::new();
         let mut nearest = [0; 9];
         for record in &mut draft.records {
-            let record_id = free.swap_remove(self.random.place(free.len()));
+            let record_id = self.fresh_id(&taken, id_limit);
+            taken.push(record_id);
             record.set(1, record_id.to_string());
             if let Some(parent) = record.record_type.parent() {
                 record.set(2, u64::to_string(&nearest[parent as usize]));
             }
             nearest[record.record_type as usize] = record_id;
+        }
+    }
+
+    /// An ID that isn't taken, now and then 0 where that is left.
+    fn fresh_id(&mut self, taken: &[u64], id_limit: u64) -> u64 {
+        if self.random.below(200) == 0 && !taken.contains(&0) {
+            return 0;
+        }
+        loop {
+            let record_id = self.random.below(id_limit);
+            if !taken.contains(&record_id) {
+                return record_id;
+            }
         }
     }
 
@@ -221,6 +220,36 @@ impl Generator {
             _ => record.shift(record.record_type.charge_field().unwrap_or(1), 1),
         }
     }
+}
+
+/// A file of nothing but its header yet, without Record ID.
+pub(super) fn puzzle_draft(sender: u64, commodity: Commodity) -> Draft {
+    let mut header = DraftRecord::new(RecordType::FileHeader);
+    header.set(4, format!("{RETAILER:09}"));
+    header.set(5, format!("{sender:04}"));
+    header.set(6, commodity.code());
+    header.set(7, format!("{}000000", date((FIRST_DAY + DAYS) as u32)));
+    Draft { sender, commodity, records: vec![header], originals: Vec::new(), cancelled: Vec::new() }
+}
+
+/// A site header with no totals yet.
+pub(super) fn puzzle_site_header(
+    draft: &Draft,
+    site: u64,
+    billing_period: Option<(u64, u64)>,
+) -> DraftRecord {
+    let mut header = DraftRecord::new(RecordType::SiteHeader);
+    header.set(4, site_text(site));
+    if let Some(days) = billing_period {
+        set_days(&mut header, days);
+    }
+    header.set(7, format!("{:04}", draft.sender));
+    header.set(8, "0001");
+    header.set(9, "98");
+    header.set(11, "C1");
+    header.set(13, draft.commodity.usage_unit());
+    header.set(16, "2020");
+    header
 }
 
 fn site_text(site: u64) -> String {
@@ -267,7 +296,7 @@ fn miscellaneous(site: u64, item: &Item) -> DraftRecord {
     record
 }
 
-fn one_time_charge(item: &Item) -> DraftRecord {
+pub(super) fn one_time_charge(item: &Item) -> DraftRecord {
     let mut record = DraftRecord::new(RecordType::OneTimeCharge);
     record.set(4, site_text(item.site));
     record.set(5, date(item.days.0 as u32));
@@ -280,7 +309,7 @@ fn one_time_charge(item: &Item) -> DraftRecord {
 }
 
 /// Sets the totals of the site headers and of the trailer.
-fn set_totals(draft: &mut Draft) {
+pub(super) fn set_totals(draft: &mut Draft) {
     let amounts: Vec<(String, i64, i64)> = draft
         .records
         .iter()

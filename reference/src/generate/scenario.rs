@@ -102,19 +102,25 @@ impl Generator {
     pub fn refused_file(&mut self, number: u32, run: &[Entry], used: usize) -> Option<Vec<u8>> {
         for _ in 0..50 {
             let request = Request { cancels: 3, ..self.full_request() };
-            let mut draft = self.valid(&request);
-            match number {
-                8 => take_file_id(&mut self.random, &mut draft, &run[..used]),
-                39 => break_a_reference(&mut self.random, &mut draft),
-                40 => break_a_cancelled_amount(&mut self.random, &mut draft),
-                _ => take_stored_id(&mut self.random, &mut draft, &run[..used]),
-            }
-            let file = self.write(&draft);
+            let file = self.spoiled_once(&request, number, &run[..used]);
             if self.is_refused(number, &file, run, used) {
                 return Some(file);
             }
         }
         None
+    }
+
+    /// A valid file, spoiled so that with these entries Book refuses it by 8,
+    /// 39, 40 or 102. The change may miss.
+    pub fn spoiled_once(&mut self, request: &Request, number: u32, stored: &[Entry]) -> Vec<u8> {
+        let mut draft = self.valid(request);
+        match number {
+            8 => take_file_id(&mut self.random, &mut draft, stored),
+            39 => break_a_reference(&mut self.random, &mut draft),
+            40 => break_a_cancelled_amount(&mut self.random, &mut draft),
+            _ => take_stored_id(&mut self.random, &mut draft, stored),
+        }
+        self.write(&draft)
     }
 
     fn is_refused(&self, number: u32, file: &[u8], run: &[Entry], used: usize) -> bool {
