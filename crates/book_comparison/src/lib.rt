@@ -57,13 +57,5 @@ pub extern "C" fn ledger_book(
     if !entries::has_room(words, amounts, soundness::read_count(places, places)) {
         return 1;
     }
-    packed(book::book(
-        retailer,
-        distributors,
-        file,
-        words,
-        amounts,
-        places,
-        used,
-    ))
+    packed(book::book(retailer, distributors, file, words, amounts, places, used))
 }

@@ -17,15 +17,7 @@ fn answer(input: &[u8]) -> Answer
     }
     let mut words = [0u64; 4608];
     let mut amounts = [0i64; 1024];
-    book::book(
-        999999999,
-        b"0040",
-        input,
-        &mut words,
-        &mut amounts,
-        512,
-        0,
-    )
+    book::book(999999999, b"0040", input, &mut words, &mut amounts, 512, 0)
 }
 
 // Writes the line into `out`, and answers its length.
