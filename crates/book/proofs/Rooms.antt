@@ -11,11 +11,11 @@ use Prim.Native.Nat.{ℕ, _*_, _≤_}
 use native.Mathlib.Omega.{arith}
 use lib.IntN.{ℤ, pos}
 use lib.ListN.{length, take, replicate, length-replicate}
-use Rattle.entries.specs.Words.{RoomFor, entriesOf}
+use Rattle.entries.specs.Words.{wordsFor, amountsFor, RoomFor, entriesOf}
 use Rattle.bill_files.specs.Accepted.{BillFile}
 use Rattle.chains.specs.Chains.{ChainRoom}
 use Rattle.entries.proofs.Words.{length-entries, take-entries}
-use Rattle.entries.proofs.Room.{room-fewer}
+use Rattle.entries.proofs.Room.{room-fewer, room-none, room-zeros}
 use Rattle.soundness.specs.Sound.{sizesFit, isSound}
 use Rattle.soundness.specs.Room.{LedgerRoom}
 use Rattle.soundness.proofs.Meaning.{sound-means}
@@ -32,7 +32,7 @@ module _ (words : List ℕ) (amounts : List ℤ) (places used : ℕ) where
       go true e =
           let h = sizes-mean places used .0 e in
           room-fewer (h .1) (room-in-use {words = words} {amounts = amounts} places places (sizes-mean places places .1 (h .0, omega arith)) room)
-      go false e = record { in-words = omega arith; in-amounts = omega arith }
+      go false e = room-none words amounts
 
   module _ (sound : isSound (entriesOf words amounts places) used ≡ true) where
     pub run-sizes : (places ≤ 8192) × (used ≤ places)
@@ -55,7 +55,7 @@ chain-room places h =
     record { some = omega (arith, long); bounded = omega (arith, long); linkable = omega (arith, long); few = omega arith }
 
 pub file-room : (size n : ℕ) → n ≤ size → size ≤ 4096
-    → FileRoom n (replicate (size * 8) 0) (replicate size (pos 0)) (replicate size (pos 0)) (replicate (size * 9) 0) (replicate (size * 2) (pos 0)) (replicate size 0) (replicate size 0)
+    → FileRoom n (replicate (size * 8) 0) (replicate size (pos 0)) (replicate size (pos 0)) (replicate (wordsFor size) 0) (replicate (amountsFor size) (pos 0)) (replicate size 0) (replicate size 0)
 file-room size n few most =
     let lines = length-replicate {A = ℤ} size (pos 0) in
     let numbers = length-replicate {A = ℕ} size 0 in
@@ -65,7 +65,7 @@ file-room size n few most =
       few = omega (arith, lines);
       most = omega (arith, lines);
       bills = record {
-        entry-room = record { in-words = omega (arith, length-replicate {A = ℕ} (size * 9) 0); in-amounts = omega (arith, length-replicate {A = ℤ} (size * 2) (pos 0)) };
+        entry-room = room-fewer few (room-zeros size);
         references-room = omega (arith, numbers);
         at-room = omega (arith, numbers);
       };

@@ -6,14 +6,14 @@
 use mathlib.Core.Path.{_≡_, refl, sym, _∙_}
 use mathlib.Core.List.{List}
 use Prim.Native.Nat.{ℕ, _≤_, _<_}
-use native.Mathlib.Omega.{arith}
 use borrow.Author.Tests.{lt-ltb, le-ltb}
-use lib.IntN.{ℤ, pos}
+use lib.IntN.{pos}
 use lib.ListN.{length, replicate, length-replicate}
 use Rattle.lists.specs.Written.{written}
 use Rattle.entries.specs.declared.Entry.{Entry}
 use Rattle.entries.specs.Entries.{blank}
-use Rattle.entries.specs.Words.{entriesOf}
+use Rattle.entries.specs.Words.{wordsFor, amountsFor, entriesOf}
+use Rattle.entries.proofs.Room.{room-zeros}
 use Rattle.entries.proofs.Words.{length-entries}
 use Rattle.soundness.specs.Room.{LedgerRoom}
 use Rattle.soundness.specs.Sound.{sizesFit}
@@ -22,17 +22,17 @@ use Rattle.booking.proofs.Lent.{same-result}
 use Rattle.book.specs.Book.{inputOf}
 use Rattle.desk_answer.specs.Desk.{deskResult}
 
-pub desk-room : LedgerRoom 512 512 (replicate 4608 0) (replicate 1024 (pos 0))
+pub desk-room : LedgerRoom 512 512 (replicate (wordsFor 512) 0) (replicate (amountsFor 512) (pos 0))
 unfolding sizesFit
-desk-room = record { in-words = omega (arith, length-replicate {A = ℕ} 4608 0); in-amounts = omega (arith, length-replicate {A = ℤ} 1024 (pos 0)) }
+desk-room = room-zeros 512
 
 pub desk-long : (input : List ℕ) → 65536 < length input → refusedResult 103 0 ≡ deskResult input
 unfolding deskResult
 desk-long input h = rw (lt-ltb 65536 (length input) h)
 
 pub desk-booked : (input : List ℕ) {r : Result} → length input ≤ 65536
-    → r ≡ bookResult (inputOf 999999999 (written "0040") input (entriesOf (replicate 4608 0) (replicate 1024 (pos 0)) 512) 0) → r ≡ deskResult input
+    → r ≡ bookResult (inputOf 999999999 (written "0040") input (entriesOf (replicate (wordsFor 512) 0) (replicate (amountsFor 512) (pos 0)) 512) 0) → r ≡ deskResult input
 unfolding deskResult
 desk-booked input h e =
     rw (le-ltb 65536 (length input) h)
-    (e ∙ same-result (record { retailer = 999999999; distributors = written "0040" }) input 0 (entriesOf (replicate 4608 0) (replicate 1024 (pos 0)) 512) (replicate 512 blank) refl (length-entries (replicate 4608 0) (replicate 1024 (pos 0)) 512 ∙ sym (length-replicate {A = Entry} 512 blank)))
+    (e ∙ same-result (record { retailer = 999999999; distributors = written "0040" }) input 0 (entriesOf (replicate (wordsFor 512) 0) (replicate (amountsFor 512) (pos 0)) 512) (replicate 512 blank) refl (length-entries (replicate (wordsFor 512) 0) (replicate (amountsFor 512) (pos 0)) 512 ∙ sym (length-replicate {A = Entry} 512 blank)))

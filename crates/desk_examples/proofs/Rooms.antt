@@ -10,6 +10,7 @@ use native.Mathlib.Omega.{arith}
 use lib.IntN.{ℤ}
 use lib.ListN.{length}
 use Rattle.entries.specs.Words.{RoomFor, entriesOf}
+use Rattle.entries.proofs.Room.{room-none}
 use Rattle.entries.proofs.Words.{length-entries}
 use Rattle.soundness.specs.Sound.{sizesFit}
 use Rattle.soundness.specs.Room.{LedgerRoom}
@@ -25,7 +26,7 @@ room-read {words} {amounts} places used room = go (sizesFit places used)
   where
     go : (fit : Bool) → RoomFor (cond fit used 0) words amounts
     go true = room
-    go false = record { in-words = omega arith; in-amounts = omega arith }
+    go false = room-none words amounts
 
 -- test 101 has left room for what a file adds
 after-within : (i : Input) → i .used ≤ length (i .run) → usedAfter i ≤ length (i .run)

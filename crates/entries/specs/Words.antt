@@ -9,10 +9,17 @@ use lib.Dec.{leb}
 use lib.ListN.{length, getD, set}
 use Rattle.entries.specs.declared.Entry.{Entry}
 
+-- how many words and amounts n entries take
+abbrev pub wordsFor : ℕ → ℕ
+wordsFor n = n * 9
+
+abbrev pub amountsFor : ℕ → ℕ
+amountsFor n = n * 2
+
 -- room for n entries
 pub record RoomFor (n : ℕ) (words : List ℕ) (amounts : List ℤ) : Type 0 where
-  pub in-words : n * 9 ≤ length words
-  pub in-amounts : n * 2 ≤ length amounts
+  pub in-words : wordsFor n ≤ length words
+  pub in-amounts : amountsFor n ≤ length amounts
 
 -- whether so many words and amounts have it
 unfoldable pub hasRoom : ℕ → ℕ → ℕ → Bool
