@@ -16,8 +16,9 @@ use Rattle.refusals.specs.declared.Outcome.{Outcome}
 use Rattle.refusals.specs.Refusals.{outcome}
 use Rattle.entries.specs.declared.Entry.{Entry}
 use Rattle.entries.specs.Entries.{isHeld}
+use Rattle.booking.specs.declared.Answer.{Answer}
 use Rattle.booking.specs.declared.Answer.the-variants.{Refused, Accepted}
-use Rattle.booking.specs.Booking.{Input, fileOf, ledgerOf, bookRefusal, isBooked, ledgerAfter, addedBy, refusedResult, acceptedResult, bookResult}
+use Rattle.booking.specs.Booking.{Input, fileOf, ledgerOf, bookRefusal, isBooked, ledgerAfter, addedBy, refusedResult, acceptedResult, resultOf, bookResult}
 use Rattle.booking.proofs.Added.{length-booked, added-count}
 use Rattle.booking.proofs.Steps.{refused-leaves, used-accepted, run-accepted}
 use Rattle.accepted_entries.specs.Accepted.{Leaves}
@@ -36,10 +37,10 @@ module _ (i : Input) where
         leaves-used = omega arith ∙ sym (refused-leaves i no .1);
       }
 
-  pub accepts : (n r held : ℕ) (run′ : List Entry) → bookRefusal i .number ≡ 0 → i .used ≤ length (i .run) → n ≡ length (fileOf i .bills) → r ≡ i .used + 1 + n
-      → Leaves (i .run) run′ r (ledgerAfter i) → held ≡ count isHeld (drop (i .used) (ledgerAfter i)) → Meets i (Accepted (1 + n) held) run′
+  pub accepts : (n r held : ℕ) (answer : Answer) (run′ : List Entry) → answer ≡ Accepted (1 + n) held → bookRefusal i .number ≡ 0 → i .used ≤ length (i .run) → n ≡ length (fileOf i .bills) → r ≡ i .used + 1 + n
+      → Leaves (i .run) run′ r (ledgerAfter i) → held ≡ count isHeld (drop (i .used) (ledgerAfter i)) → Meets i answer run′
   unfolding bookResult
-  accepts n r held run′ e fits n-is r-is left holds =
+  accepts n r held answer run′ says e fits n-is r-is left holds =
       let yes-booked : isBooked i ≡ true = eq-eqb (bookRefusal i .number) 0 e in
       let short : length (ledgerOf i) ≡ i .used = length-take-le (i .used) (i .run) fits in
       let long : length (ledgerAfter i) ≡ r = length-booked (ledgerOf i) (fileOf i) ∙ omega (arith, short, n-is, r-is) in
@@ -47,12 +48,13 @@ module _ (i : Input) where
       let few : held ≡ count isHeld (addedBy i) = holds ∙ ap (λ (m : ℕ). count isHeld (drop m (ledgerAfter i))) (sym short) in
       record {
         answers =
-            (λ t. acceptedResult (many t) (few t))
+            ap resultOf says
+            ∙ (λ t. acceptedResult (many t) (few t))
             ∙ sym (ap (λ (t : Bool). cond t (acceptedResult (length (addedBy i)) (count isHeld (addedBy i))) (refusedResult (bookRefusal i .number) (bookRefusal i .line))) yes-booked);
         leaves-run =
             sym (take-append-drop r run′)
             ∙ (λ t. left .entries t ++ left .past t)
             ∙ ap (λ (m : ℕ). ledgerAfter i ++ drop m (i .run)) (sym long)
             ∙ sym (run-accepted i yes-booked);
-        leaves-used = omega (arith, r-is) ∙ sym long ∙ sym (used-accepted i yes-booked);
+        leaves-used = omega (arith, r-is, ap (λ (a : Answer). resultOf a .added) says) ∙ sym long ∙ sym (used-accepted i yes-booked);
       }

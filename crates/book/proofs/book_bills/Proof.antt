@@ -57,8 +57,8 @@ slice-aggregate-write-entries-3 c = search needs
 write-entries-requires : tie.Need-write-entries-requires
 write-entries-requires c κs = let s = c .before .before .before .before .before .before .before .before .before .before .before .before .before .before .before .before .before in let named = c .before .before .before .before .before .before .before .before .ledger-refusal .ensures .1 (c .before .before .before .before .before .if1 .left) in ((s .pre .0 .0, chain-room (s .args .places) (s .pre .0 .1), named .1), ((zeros 8192, s .pre .1 .own), (s .pre .1 .source, subst (λ (l : List Entry). Named l (fileIn (now (s .args .file)) .bills) (c .before .before .before .before .before .before .before .before .ledger-refusal .last .1 .1 .1 .1 .1 .1 .1 .1 .1 .1 .1 .0)) (sym (take-entries (now (s .args .words)) (now (s .args .amounts)) (s .args .used) (s .args .places) (s .pre .0 .2))) (named .0))))
 
-add-t36 : tie.Need-add-t36
-add-t36 c = search needs
+accepted-requires : tie.Need-accepted-requires
+accepted-requires c κs = c .before .before .before .before .before .before .before .before .before .before .before .before .before .before .before .before .before .before .before .before .before .before .before .pre .1 .few
 
 same-length-3 : tie.Need-same-length-3
 same-length-3 c = search needs
@@ -67,7 +67,7 @@ same-length-4 : tie.Need-same-length-4
 same-length-4 c = search needs
 
 returns-2 : tie.Need-returns-2
-returns-2 c = let s = c .before .before .before .before .before .before .before .before .before .before .before .before .before .before .before .before .before .before .before .before .before .before .before in let w = c .before .before .before .before .before .write-entries in λ retailer distributors t. accepts (input s retailer distributors) (s .args .n) (w .result .used) (w .result .held) _ (ap (λ (o : Outcome). o .number) (refused-ledger (input s retailer distributors) t (tests (c .before .before .before .before .before .before .before .before .before .before .before .before .before .before) retailer distributors)) ∙ c .before .before .before .before .before .before .before .before .before .before .before .if1 .left) (omega (arith, length-entries (now (s .args .words)) (now (s .args .amounts)) (s .args .places), s .pre .0 .2)) (s .pre .1 .source .count) (w .ensures .0) (w .ensures .1 .0) (w .ensures .1 .1)
+returns-2 c = let s = c .before .before .before .before .before .before .before .before .before .before .before .before .before .before .before .before .before .before .before .before .before .before .before .before in let w = c .before .before .before .before .before .before .write-entries in λ retailer distributors t. accepts (input s retailer distributors) (s .args .n) (w .result .used) (w .result .held) (c .accepted .result) _ (c .accepted .ensures) (ap (λ (o : Outcome). o .number) (refused-ledger (input s retailer distributors) t (tests (c .before .before .before .before .before .before .before .before .before .before .before .before .before .before .before) retailer distributors)) ∙ c .before .before .before .before .before .before .before .before .before .before .before .before .if1 .left) (omega (arith, length-entries (now (s .args .words)) (now (s .args .amounts)) (s .args .places), s .pre .0 .2)) (s .pre .1 .source .count) (w .ensures .0) (w .ensures .1 .0) (w .ensures .1 .1)
 
 pub book-bills-spec : {M : Type 1} → statement M
 book-bills-spec =
@@ -82,7 +82,7 @@ book-bills-spec =
     slice-aggregate-write-entries-2
     slice-aggregate-write-entries-3
     write-entries-requires
-    add-t36
+    accepted-requires
     same-length-3
     same-length-4
     returns-2)
