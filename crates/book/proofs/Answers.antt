@@ -17,8 +17,8 @@ use Rattle.refusals.specs.Refusals.{outcome}
 use Rattle.entries.specs.declared.Entry.{Entry}
 use Rattle.entries.specs.Entries.{isHeld}
 use Rattle.booking.specs.declared.Answer.{Answer}
-use Rattle.booking.specs.declared.Answer.the-variants.{Refused, Accepted}
-use Rattle.booking.specs.Booking.{Input, fileOf, ledgerOf, bookRefusal, isBooked, ledgerAfter, addedBy, refusedResult, acceptedResult, resultOf, bookResult}
+use Rattle.booking.specs.declared.Answer.the-variants.{Refused}
+use Rattle.booking.specs.Booking.{Input, Result, fileOf, ledgerOf, bookRefusal, isBooked, ledgerAfter, addedBy, refusedResult, acceptedResult, resultOf, bookResult}
 use Rattle.booking.proofs.Added.{length-booked, added-count}
 use Rattle.booking.proofs.Steps.{refused-leaves, used-accepted, run-accepted}
 use Rattle.accepted_entries.specs.Accepted.{Leaves}
@@ -37,7 +37,7 @@ module _ (i : Input) where
         leaves-used = omega arith ∙ sym (refused-leaves i no .1);
       }
 
-  pub accepts : (n r held : ℕ) (answer : Answer) (run′ : List Entry) → answer ≡ Accepted (1 + n) held → bookRefusal i .number ≡ 0 → i .used ≤ length (i .run) → n ≡ length (fileOf i .bills) → r ≡ i .used + 1 + n
+  pub accepts : (n r held : ℕ) (answer : Answer) (run′ : List Entry) → resultOf answer ≡ acceptedResult (1 + n) held → bookRefusal i .number ≡ 0 → i .used ≤ length (i .run) → n ≡ length (fileOf i .bills) → r ≡ i .used + 1 + n
       → Leaves (i .run) run′ r (ledgerAfter i) → held ≡ count isHeld (drop (i .used) (ledgerAfter i)) → Meets i answer run′
   unfolding bookResult
   accepts n r held answer run′ says e fits n-is r-is left holds =
@@ -48,7 +48,7 @@ module _ (i : Input) where
       let few : held ≡ count isHeld (addedBy i) = holds ∙ ap (λ (m : ℕ). count isHeld (drop m (ledgerAfter i))) (sym short) in
       record {
         answers =
-            ap resultOf says
+            says
             ∙ (λ t. acceptedResult (many t) (few t))
             ∙ sym (ap (λ (t : Bool). cond t (acceptedResult (length (addedBy i)) (count isHeld (addedBy i))) (refusedResult (bookRefusal i .number) (bookRefusal i .line))) yes-booked);
         leaves-run =
@@ -56,5 +56,5 @@ module _ (i : Input) where
             ∙ (λ t. left .entries t ++ left .past t)
             ∙ ap (λ (m : ℕ). ledgerAfter i ++ drop m (i .run)) (sym long)
             ∙ sym (run-accepted i yes-booked);
-        leaves-used = omega (arith, r-is, ap (λ (a : Answer). resultOf a .added) says) ∙ sym long ∙ sym (used-accepted i yes-booked);
+        leaves-used = omega (arith, r-is, ap (λ (r : Result). r .added) says) ∙ sym long ∙ sym (used-accepted i yes-booked);
       }

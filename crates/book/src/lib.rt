@@ -7,7 +7,6 @@ ghost use Rattle.text.specs.Text.{linesOf, Placed};
 ghost use Rattle.refusals.specs.Refusals.{firstRefusal};
 ghost use Rattle.entries.specs.Words.{RoomFor, entriesOf};
 ghost use Rattle.soundness.specs.Room.{LedgerRoom};
-ghost use Rattle.booking.specs.declared.Answer.the-variants.{Accepted};
 ghost use Rattle.booking.specs.Booking.{ledgerRefusals};
 ghost use Rattle.file_bills.specs.Bills.{fileIn};
 ghost use Rattle.ledger_tests.specs.Tests.{Named};
@@ -104,15 +103,6 @@ fn ledger_refusal(
     refused(0, 0)
 }
 
-// The answer for a file whose file entry and n records are written. "An original period is held if it shares a day with a live period of its site": no
-// number of them refuses a file.
-fn accepted(n: usize, held: usize) -> Answer
-    requires { ⌜ n ≤ 4096 ⌝ }
-    ensures { λ r. ⌜ r ≡ Accepted (1 + n) held ⌝ }
-{
-    Answer::Accepted(1 + n, held)
-}
-
 // Book of a file that passes tests 2 to 38, over a sound ledger, from its TH and OC.
 fn book_bills(
     file: &[u8],
@@ -165,7 +155,7 @@ fn book_bills(
         &mut heads,
         &mut links,
     );
-    accepted(n, written.held)
+    booking::accepted(n, written.held)
 }
 
 // Book of a file whose n lines are found, over a sound ledger. The columns of the lines, and what is kept of their TH and OC, are lent.
