@@ -1,7 +1,6 @@
 -- Room for a ledger in words, and for what is kept of a file.
 --     used-room, run-room, run-sizes     what room for a run is to a ledger with so many entries in use
 --     same-tests                         the tests that read the ledger rest on the run's length and its used entries
---     chain-room                         columns of zeros have room for the chains of a run
 --     file-room                          columns of zeros have room for the lines of a file and for its TH and OC
 -- Assumes nothing.
 use mathlib.Core.Path.{_≡_, refl, sym, subst}
@@ -13,7 +12,6 @@ use lib.IntN.{ℤ, pos}
 use lib.ListN.{length, take, replicate, length-replicate}
 use Rattle.entries.specs.Words.{wordsFor, amountsFor, RoomFor, entriesOf}
 use Rattle.bill_files.specs.Accepted.{BillFile}
-use Rattle.chains.specs.Chains.{ChainRoom}
 use Rattle.entries.proofs.Words.{length-entries, take-entries}
 use Rattle.entries.proofs.Room.{room-fewer, room-none, room-zeros}
 use Rattle.soundness.specs.Sound.{sizesFit, isSound}
@@ -47,12 +45,6 @@ module _ (words : List ℕ) (amounts : List ℤ) (places used : ℕ) where
 pub same-tests : (words : List ℕ) (amounts : List ℤ) (places used : ℕ) (file : BillFile) → used ≤ places
     → ledgerRefusals places (entriesOf words amounts used) file ≡ ledgerRefusals (length (entriesOf words amounts places)) (take used (entriesOf words amounts places)) file
 same-tests words amounts places used file h = λ t. ledgerRefusals (sym (length-entries words amounts places) t) (sym (take-entries words amounts used places h) t) file
-
--- columns of zeros for the chains of a run
-pub chain-room : (places : ℕ) → places ≤ 8192 → ChainRoom places (replicate 8192 0) (replicate 8192 0)
-chain-room places h =
-    let long = length-replicate {A = ℕ} 8192 0 in
-    record { some = omega (arith, long); bounded = omega (arith, long); linkable = omega (arith, long); few = omega arith }
 
 pub file-room : (size n : ℕ) → n ≤ size → size ≤ 4096
     → FileRoom n (replicate (size * 8) 0) (replicate size (pos 0)) (replicate size (pos 0)) (replicate (wordsFor size) 0) (replicate (amountsFor size) (pos 0)) (replicate size 0) (replicate size 0)

@@ -3,18 +3,16 @@
 use mathlib.Core.Path.{_≡_}
 use mathlib.Core.Bool.{true, false}
 use mathlib.Core.List.{List}
-use Prim.Native.Nat.{ℕ, _+_, _*_, _≤_, _<_}
+use Prim.Native.Nat.{ℕ, _+_, _*_, _≤_}
 use lib.IntN.{ℤ}
-use lib.ListN.{length, getD}
+use lib.ListN.{length}
 use Rattle.text.specs.Text.{linesOf}
 use Rattle.refusals.specs.Refusals.{firstRefusal}
 use Rattle.refusals.specs.Check.{testRefusals, settingsFit, isTooLarge}
-use Rattle.bill_files.specs.Accepted.{BillFile}
 use Rattle.entries.specs.declared.Entry.{Entry}
 use Rattle.soundness.specs.Sound.{isSound}
 use Rattle.booking.specs.declared.Answer.{Answer}
-use Rattle.booking.specs.Booking.{Input, resultOf, fileEntry, Booked}
-use Rattle.file_bills.specs.Bills.{Source, References}
+use Rattle.booking.specs.Booking.{Input, resultOf, Booked}
 use Rattle.file_bills.specs.Reading.{BillRoom}
 
 abbrev pub inputOf : ℕ → List ℕ → List ℕ → List Entry → ℕ → Input
@@ -38,15 +36,6 @@ pub record Opened (i : Input) : Type 0 where
 pub record Tested (i : Input) : Type 0 where
   pub opened : Opened i
   pub passes : firstRefusal (testRefusals (i .settings .retailer) (i .settings .distributors) (linesOf (i .file))) .number ≡ 0
-
--- a file's own entry, its TH and OC as entries, their Reference IDs and their lines
-pub record Bills (file : BillFile) (header : Entry) (words : List ℕ) (amounts : List ℤ) (references at : List ℕ) (n : ℕ) : Type 0 where
-  pub own : header ≡ fileEntry file
-  pub few : n ≤ 4096
-  pub source : Source (file .bills) words amounts n
-  pub refers : References (file .bills) references n
-  pub at-room : n ≤ length at
-  pub stands : (k : ℕ) → k < n → getD at k 0 ≡ getD (file .lines) k 0
 
 -- room for the columns of some lines, and for their TH and OC
 pub record FileRoom (n : ℕ) (columns : List ℕ) (charges usages : List ℤ) (words : List ℕ) (amounts : List ℤ) (references at : List ℕ) : Type 0 where

@@ -1,107 +1,20 @@
 // Book on a ledger in words: refusals in document 01's order, and then the entries. Nothing is written before the last refusal is decided.
 ghost use mathlib.Core.Path.{_≡_};
 ghost use mathlib.Core.List.{List};
-ghost use Prim.Native.Nat.{ℕ, _+_, _≤_};
+ghost use Prim.Native.Nat.{ℕ, _≤_};
 ghost use lib.ListN.{length};
 ghost use Rattle.text.specs.Text.{linesOf, Placed};
-ghost use Rattle.refusals.specs.Refusals.{firstRefusal};
+ghost use Rattle.refusals.specs.Check.{Read};
 ghost use Rattle.entries.specs.Words.{RoomFor, entriesOf};
 ghost use Rattle.soundness.specs.Room.{LedgerRoom};
-ghost use Rattle.booking.specs.Booking.{ledgerRefusals};
+ghost use Rattle.booking.specs.Booking.{fileEntry};
 ghost use Rattle.file_bills.specs.Bills.{fileIn};
-ghost use Rattle.ledger_tests.specs.Tests.{Named};
-ghost use Rattle.book.specs.Book.{inputOf, Meets, Ready, Opened, Tested, Bills, FileRoom};
+ghost use Rattle.file_bills.specs.Reading.{BillRoom};
+ghost use Rattle.ledger_refusals.specs.Bills.{Bills};
+ghost use Rattle.book.specs.Book.{inputOf, Meets, Ready, Opened, Tested, FileRoom};
 use booking::Answer;
 use entries::Entry;
-use refusals::Outcome;
-use refusals::refused;
 use text::Lines;
-
-// Tests 8, 39, 40, 102 and 101, in this order: the first refusal. Where there is none, `named` has the place of the entry that each cancel names.
-fn ledger_refusal(
-    file: &[u8],
-    words: &[u64],
-    amounts: &[i64],
-    places: usize,
-    used: usize,
-    header: Entry,
-    bill_words: &[u64],
-    bill_amounts: &[i64],
-    references: &[u64],
-    at: &[usize],
-    n: usize,
-    named: &mut [u16],
-) -> Outcome
-    requires { ⌜ RoomFor used (now words) (now amounts) × (used ≤ 8192) × (n ≤ length (now named)) ⌝ }
-    requires { ⌜ Bills (fileIn (now file)) header (now «bill_words») (now «bill_amounts») (now references) (now at) n ⌝ }
-    ensures { λ r. ⌜ r ≡ firstRefusal (ledgerRefusals places (entriesOf (now (words .entry)) (now (amounts .entry)) used) (fileIn (now (file .entry)))) ⌝ }
-    ensures { λ r. ⌜ (r .number ≡ 0 → Named (entriesOf (now (words .entry)) (now (amounts .entry)) used) (fileIn (now (file .entry)) .bills) (now (named .exit)) × (used + 1 + n ≤ places)) ⌝ }
-{
-    let mut marks = [0u8; 8192];
-    let mut heads = [0u16; 8192];
-    let mut links = [0u16; 8192];
-    entries_by_key::index(words, amounts, used, &mut heads, &mut links);
-    if entries_by_key::has_file(
-        words,
-        amounts,
-        used,
-        &heads,
-        &links,
-        header.sender,
-        header.id,
-    ) {
-        return refused(8, 1);
-    }
-    let unnamed = ledger_tests::name_cancels(
-        words,
-        amounts,
-        used,
-        &heads,
-        &links,
-        file,
-        bill_words,
-        bill_amounts,
-        references,
-        n,
-        &mut marks,
-        named,
-    );
-    if unnamed < n {
-        return refused(39, at[unnamed] as u64);
-    }
-    let unopposed = ledger_tests::first_unopposed(
-        words,
-        amounts,
-        used,
-        file,
-        bill_words,
-        bill_amounts,
-        n,
-        named,
-    );
-    if unopposed < n {
-        return refused(40, at[unopposed] as u64);
-    }
-    if ledger_tests::has_stored(
-        words,
-        amounts,
-        used,
-        &heads,
-        &links,
-        file,
-        header.sender,
-        header.id,
-        bill_words,
-        bill_amounts,
-        n,
-    ) {
-        return refused(102, 0);
-    }
-    if places < used + 1 + n {
-        return refused(101, 0);
-    }
-    refused(0, 0)
-}
 
 // Book of a file that passes tests 2 to 38, over a sound ledger, from its TH and OC.
 fn book_bills(
@@ -118,11 +31,11 @@ fn book_bills(
     n: usize,
 ) -> Answer
     requires { ⌜ RoomFor places (now words) (now amounts) × (places ≤ 8192) × (used ≤ places) ⌝ }
-    requires { ⌜ Bills (fileIn (now file)) header (now «bill_words») (now «bill_amounts») (now references) (now at) n ⌝ }
+    requires { ⌜ (header ≡ fileEntry (fileIn (now file))) × Bills (fileIn (now file)) (now «bill_words») (now «bill_amounts») (now references) (now at) n ⌝ }
     ensures { λ r. ⌜ ((retailer : ℕ) (distributors : List ℕ) → (let i = inputOf retailer distributors (now (file .entry)) (entriesOf (now (words .entry)) (now (amounts .entry)) places) used in Tested i → Meets i r (entriesOf (now (words .exit)) (now (amounts .exit)) places))) ⌝ }
 {
     let mut named = [0u16; 4096];
-    let refusal = ledger_refusal(
+    let refusal = ledger_refusals::first_refusal(
         file,
         words,
         amounts,
@@ -156,6 +69,59 @@ fn book_bills(
         &mut links,
     );
     booking::accepted(n, written.held)
+}
+
+// Book of a file that passes tests 2 to 38, over a sound ledger, from the columns of its lines. What is kept of its TH and OC is lent.
+fn book_passing(
+    file: &[u8],
+    words: &mut [u64],
+    amounts: &mut [i64],
+    places: usize,
+    used: usize,
+    starts: &[usize],
+    ends: &[usize],
+    n: usize,
+    columns: &[u64],
+    charges: &[i64],
+    usages: &[i64],
+    bill_words: &mut [u64],
+    bill_amounts: &mut [i64],
+    references: &mut [u64],
+    at: &mut [usize],
+) -> Answer
+    requires { ⌜ RoomFor places (now words) (now amounts) × (places ≤ 8192) × (used ≤ places) ⌝ }
+    requires { ⌜ Read (now file) n (now starts) (now ends) (now columns) (now charges) (now usages) × BillRoom n (now «bill_words») (now «bill_amounts») (now references) (now at) ⌝ }
+    ensures { λ r. ⌜ ((retailer : ℕ) (distributors : List ℕ) → (let i = inputOf retailer distributors (now (file .entry)) (entriesOf (now (words .entry)) (now (amounts .entry)) places) used in Tested i → Meets i r (entriesOf (now (words .exit)) (now (amounts .exit)) places))) ⌝ }
+{
+    let header = file_bills::read_header(file, starts, ends, n, columns, charges, usages);
+    let count = file_bills::read_bills(
+        file,
+        starts,
+        ends,
+        n,
+        columns,
+        charges,
+        usages,
+        header.sender,
+        header.commodity,
+        bill_words,
+        bill_amounts,
+        references,
+        at,
+    );
+    book_bills(
+        file,
+        words,
+        amounts,
+        places,
+        used,
+        header,
+        bill_words,
+        bill_amounts,
+        references,
+        at,
+        count,
+    )
 }
 
 // Book of a file whose n lines are found, over a sound ledger. The columns of the lines, and what is kept of their TH and OC, are lent.
@@ -197,34 +163,22 @@ fn book_in_room(
     if tested.number != 0 {
         return Answer::Refused(tested.number as usize, tested.line as usize);
     }
-    let header = file_bills::read_header(file, starts, ends, n, columns, charges, usages);
-    let count = file_bills::read_bills(
+    book_passing(
         file,
+        words,
+        amounts,
+        places,
+        used,
         starts,
         ends,
         n,
         columns,
         charges,
         usages,
-        header.sender,
-        header.commodity,
         bill_words,
         bill_amounts,
         references,
         at,
-    );
-    book_bills(
-        file,
-        words,
-        amounts,
-        places,
-        used,
-        header,
-        bill_words,
-        bill_amounts,
-        references,
-        at,
-        count,
     )
 }
 

@@ -49,6 +49,11 @@ first-cancel-most fails l (b ∷ bs) = go (b .cancel && fails l b) (first-cancel
     go true h = omega arith
     go false h = omega arith
 
+-- test 39 answers a record of the file, or their number
+pub unnamed-most : (l : List Entry) (file : BillFile) → firstUnnamed l file ≤ length (file .bills)
+unfolding firstUnnamed
+unnamed-most l file = first-cancel-most _ l (file .bills)
+
 -- what the searches of these tests answer
 pub record LedgerPasses (places : ℕ) (l : List Entry) (file : BillFile) : Type 0 where
   -- 8
@@ -66,10 +71,6 @@ module _ (places : ℕ) (l : List Entry) (file : BillFile) where
   place-none : (place : ℕ) → place ≤ length (file .bills) → (ltb place (length (file .bills)) ≡ false) ↔ (place ≡ length (file .bills))
   place-none place most = (λ e. omega (arith, ltb-false place (length (file .bills)) e), λ e. le-ltb place (length (file .bills)) (omega arith))
 
-  unnamed-most : firstUnnamed l file ≤ length (file .bills)
-  unfolding firstUnnamed
-  unnamed-most = first-cancel-most _ l (file .bills)
-
   unopposed-most : firstUnopposed l file ≤ length (file .bills)
   unfolding firstUnopposed
   unopposed-most = first-cancel-most _ l (file .bills)
@@ -83,7 +84,7 @@ module _ (places : ℕ) (l : List Entry) (file : BillFile) where
           let at : (n : ℕ) → appliesAt n (ledgerRefusals places l file) ≡ false = λ n. applies-at n (ledgerRefusals places l file) h in
           record {
             new-file = at 8;
-            named = place-none (firstUnnamed l file) unnamed-most .0 (at 39);
+            named = place-none (firstUnnamed l file) (unnamed-most l file) .0 (at 39);
             opposed = place-none (firstUnopposed l file) unopposed-most .0 (at 40);
             unstored = at 102;
             room = ltb-false places (length l + 1 + length (file .bills)) (at 101);
@@ -91,7 +92,7 @@ module _ (places : ℕ) (l : List Entry) (file : BillFile) where
 
       to : LedgerPasses places l file → NoneOf (ledgerRefusals places l file)
       to p =
-          let named = place-none (firstUnnamed l file) unnamed-most .1 (p .named) in
+          let named = place-none (firstUnnamed l file) (unnamed-most l file) .1 (p .named) in
           let opposed = place-none (firstUnopposed l file) unopposed-most .1 (p .opposed) in
           let room = le-ltb places (length l + 1 + length (file .bills)) (p .room) in
           (p .new-file, (named, (opposed, (p .unstored, (room, tt)))))

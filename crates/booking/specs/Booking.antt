@@ -166,15 +166,23 @@ hasStored l file = isStored l (file .sender) (file .recordId) || any (λ b. isSt
 abbrev pub atBill : ℕ → BillFile → ℕ → Refusal
 atBill number file place = atLine number (getD (file .lines) place 0) (ltb place (length (file .bills)))
 
--- "Tests that read it, after 38"; 101: "the used count plus 1 plus the number of TH and OC exceeds the run's length."
-unfoldable pub ledgerRefusals : ℕ → List Entry → BillFile → List Refusal
-ledgerRefusals places l file =
-    atLine 8 1 (hasFile l file)
-    ∷ atBill 39 file (firstUnnamed l file)
+-- tests 39 and 40, of the Y records
+abbrev pub cancelRefusals : List Entry → BillFile → List Refusal
+cancelRefusals l file =
+    atBill 39 file (firstUnnamed l file)
     ∷ atBill 40 file (firstUnopposed l file)
-    ∷ house 102 (hasStored l file)
+    ∷ []
+
+-- 102, and 101: "the used count plus 1 plus the number of TH and OC exceeds the run's length."
+abbrev pub storageRefusals : ℕ → List Entry → BillFile → List Refusal
+storageRefusals places l file =
+    house 102 (hasStored l file)
     ∷ house 101 (ltb places (length l + 1 + length (file .bills)))
     ∷ []
+
+-- "Tests that read it, after 38"
+unfoldable pub ledgerRefusals : ℕ → List Entry → BillFile → List Refusal
+ledgerRefusals places l file = atLine 8 1 (hasFile l file) ∷ (cancelRefusals l file ++ storageRefusals places l file)
 
 -- ════ Book
 

@@ -1,18 +1,15 @@
--- `book::book_in_room` meets its contract: tests 2 to 38 over the lines, and then the file's TH and OC.
+-- `book::book_in_room` meets its contract: tests 2 to 38 over the lines, and then what they say.
 -- Assumes nothing.
 use mathlib.Core.Path.{_≡_, sym, ap, _∙_}
 use denote.Ref.{now}
-use Rattle.text.specs.Text.{linesOf}
 use Rattle.refusals.specs.declared.Outcome.{Outcome}
 use Rattle.entries.specs.Words.{entriesOf}
 use Rattle.booking.specs.Booking.{Input}
 use Rattle.book.specs.Book.{inputOf}
 use Rattle.book.proofs.Answers.{refuses}
-use Rattle.book.proofs.FileBills.{bills-read, sender-own, commodity-own}
 use Rattle.book.proofs.Refusing.{refused-tests}
 use Rattle.book.proofs.Rooms.{run-sizes}
 use borrow.Author.Needs.{needs}
-use native.Mathlib.Omega.{arith}
 use Rattle.book.proofs.book_in_room.Statement.{statement}
 use Rattle.book.proofs.book_in_room.Tie as tie
 
@@ -34,14 +31,8 @@ same-length-3 c = search needs
 returns : tie.Need-returns
 returns c = let s = c .before .before .before .before .before .before .before .before .before .before .before .before .before .before .before .before .before .before .before in let r = c .before .before .before .before .before .before .check-in-room in refuses (input s) (r .result .number) (r .result .line) (refused-tests (input s) (s .pre .1 .0) (r .ensures .0) (c .if1 .taken)) (c .if1 .taken)
 
-read-header-requires : tie.Need-read-header-requires
-read-header-requires c κs = c .before .before .before .before .before .before .before .before .before .check-in-room .ensures .1 (c .before .before .before .if1 .left)
-
-read-bills-requires : tie.Need-read-bills-requires
-read-bills-requires c κs = let s = c .before .before .before .before .before .before .before .before .before .before .before .before .before .before .before .before .before .before .before .before .before .before .before .before .before .before .before .before .before .before in let own = c .before .before .before .before .before .before .before .read-header .ensures in (c .before .before .before .before .before .before .before .before .before .before .before .before .before .before .before .before .before .check-in-room .ensures .1 (c .before .before .before .before .before .before .before .before .before .before .before .if1 .left), (sender-own _ _ own, commodity-own _ _ own, s .pre .1 .1 .1 .bills))
-
-book-bills-requires : tie.Need-book-bills-requires
-book-bills-requires c κs = let s = c .before .before .before .before .before .before .before .before .before .before .before .before .before .before .before .before .before .before .before .before .before .before .before .before .before .before .before .before .before .before .before .before .before .before .before .before .before .before .before .before .before .before .before .before in let room = s .pre .1 .1 .1 in let sizes = run-sizes (now (s .args .words)) (now (s .args .amounts)) (s .args .places) (s .args .used) (s .pre .1 .0 .ready .sound) in ((s .pre .0, sizes .0, sizes .1), bills-read (linesOf (now (s .args .file))) (s .args .n) (c .before .before .before .before .before .before .before .before .before .before .before .before .before .read-bills .result) (c .before .before .before .before .before .before .before .before .before .before .before .before .before .before .before .before .before .before .before .before .before .read-header .result) _ _ _ _ (s .pre .1 .1 .0 .count) (omega (arith, room .few, room .most)) (c .before .before .before .before .before .before .before .before .before .before .before .before .before .before .before .before .before .before .before .before .before .read-header .ensures) (omega (arith, c .before .before .before .before .before .before .before .before .before .before .before .before .before .read-bills .kept .1 .1 .1 .1 .1 .1 .1 .1 .1 .1 .1 .1 .0, room .bills .at-room)) (c .before .before .before .before .before .before .before .before .before .before .before .before .before .read-bills .ensures))
+book-passing-requires : tie.Need-book-passing-requires
+book-passing-requires c κs = let s = c .before .before .before .before .before .before .before .before .before .before .before .before .before .before .before .before .before .before .before .before .before .before .before .before .before .before .before .before in let sizes = run-sizes (now (s .args .words)) (now (s .args .amounts)) (s .args .places) (s .args .used) (s .pre .1 .0 .ready .sound) in ((s .pre .0, sizes .0, sizes .1), (c .before .before .before .before .before .before .before .before .before .before .before .before .before .before .before .check-in-room .ensures .1 (c .before .before .before .before .before .before .before .before .before .if1 .left), s .pre .1 .1 .1 .bills))
 
 same-length-4 : tie.Need-same-length-4
 same-length-4 c = search needs
@@ -50,13 +41,13 @@ same-length-5 : tie.Need-same-length-5
 same-length-5 c = search needs
 
 same-length-6 : tie.Need-same-length-6
-same-length-6 c = c .before .before .before .before .before .before .before .before .before .before .before .before .before .before .before .before .before .before .before .before .before .before .before .before .before .before .before .before .before .before .before .before .before .before .before .check-in-room .kept .1 .1 .1 .1 .1 .1 .0
+same-length-6 c = c .before .before .before .before .before .before .before .before .before .before .before .before .before .before .before .before .before .before .before .before .before .before .before .before .before .before .check-in-room .kept .1 .1 .1 .1 .1 .1 .0
 
 same-length-7 : tie.Need-same-length-7
-same-length-7 c = c .before .before .before .before .before .before .before .before .before .before .before .before .before .before .before .before .before .before .before .before .before .before .before .before .before .before .before .before .before .before .before .before .before .before .before .check-in-room .kept .1 .1 .1 .1 .1 .1 .1 .0
+same-length-7 c = c .before .before .before .before .before .before .before .before .before .before .before .before .before .before .before .before .before .before .before .before .before .before .before .before .before .before .check-in-room .kept .1 .1 .1 .1 .1 .1 .1 .0
 
 same-length-8 : tie.Need-same-length-8
-same-length-8 c = c .before .before .before .before .before .before .before .before .before .before .before .before .before .before .before .before .before .before .before .before .before .before .before .before .before .before .before .before .before .before .before .before .before .before .before .check-in-room .kept .1 .1 .1 .1 .1 .1 .1 .1 .0
+same-length-8 c = c .before .before .before .before .before .before .before .before .before .before .before .before .before .before .before .before .before .before .before .before .before .before .before .before .before .before .check-in-room .kept .1 .1 .1 .1 .1 .1 .1 .1 .0
 
 same-length-9 : tie.Need-same-length-9
 same-length-9 c = search needs
@@ -71,7 +62,7 @@ same-length-12 : tie.Need-same-length-12
 same-length-12 c = search needs
 
 returns-2 : tie.Need-returns-2
-returns-2 c = let s = c .before .before .before .before .before .before .before .before .before .before .before .before .before .before .before .before .before .before .before .before .before .before .before .before .before .before .before .before .before .before .before .before .before .before .before .before .before .before .before .before .before .before .before .before .before .before .before .before in c .before .before .before .book-bills .ensures (s .args .retailer) (now (s .args .distributors)) (record { opened = s .pre .1 .0; passes = sym (ap (λ (o : Outcome). o .number) (c .before .before .before .before .before .before .before .before .before .before .before .before .before .before .before .before .before .before .before .before .before .before .before .before .before .before .before .before .before .before .before .before .before .before .before .check-in-room .ensures .0)) ∙ c .before .before .before .before .before .before .before .before .before .before .before .before .before .before .before .before .before .before .before .before .before .before .before .before .before .before .before .before .before .if1 .left })
+returns-2 c = let s = c .before .before .before .before .before .before .before .before .before .before .before .before .before .before .before .before .before .before .before .before .before .before .before .before .before .before .before .before .before .before .before .before .before .before .before .before .before .before .before in c .before .before .before .before .before .before .before .before .before .before .book-passing .ensures (s .args .retailer) (now (s .args .distributors)) (record { opened = s .pre .1 .0; passes = sym (ap (λ (o : Outcome). o .number) (c .before .before .before .before .before .before .before .before .before .before .before .before .before .before .before .before .before .before .before .before .before .before .before .before .before .before .check-in-room .ensures .0)) ∙ c .before .before .before .before .before .before .before .before .before .before .before .before .before .before .before .before .before .before .before .before .if1 .left })
 
 pub book-in-room-spec : {M : Type 1} → statement M
 book-in-room-spec =
@@ -82,9 +73,7 @@ book-in-room-spec =
     same-length-2
     same-length-3
     returns
-    read-header-requires
-    read-bills-requires
-    book-bills-requires
+    book-passing-requires
     same-length-4
     same-length-5
     same-length-6
