@@ -1,0 +1,4 @@
+pub mod BookInCalled
+pub mod BookReplyCalled
+pub mod Laws
+pub mod WrittenCalled

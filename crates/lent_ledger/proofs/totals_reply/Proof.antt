@@ -1,0 +1,19 @@
+-- `lent_ledger::totals_reply` meets its contract: what its two callees say, one after the other.
+-- Assumes nothing.
+use mathlib.Core.Path.{ap, _∙_}
+use borrow.Author.Needs.{needs}
+use Rattle.lent_ledger.specs.Replies.{totalsReply}
+use Rattle.lent_ledger.proofs.totals_reply.Statement.{statement}
+use Rattle.lent_ledger.proofs.totals_reply.Tie as tie
+
+totals-of-requires : tie.Need-totals-of-requires
+totals-of-requires c κs = search needs
+
+totals-reply-for-requires : tie.Need-totals-reply-for-requires
+totals-reply-for-requires c κs = search needs
+
+returns : tie.Need-returns
+returns c = c .totals-reply-for .ensures ∙ ap totalsReply (c .before .totals-of .ensures)
+
+pub totals-reply-spec : {M : Type 1} → statement M
+totals-reply-spec = tie.close (tie.spec totals-of-requires totals-reply-for-requires returns)

@@ -1,0 +1,33 @@
+// A lent run of entries, and the words that the ledger's functions work on: what is copied from the one to the other, and back.
+ghost use mathlib.Core.Path.{_≡_};
+ghost use Prim.Native.Nat.{_≤_};
+ghost use lib.ListN.{length, take};
+ghost use Rattle.entries.specs.Words.{RoomFor, entriesOf};
+ghost use Rattle.soundness.specs.Room.{readCount, LedgerRoom};
+ghost use Rattle.runs.specs.Copies.{placed};
+use entries::Entry;
+
+// Copies the entries that are read of a ledger into the words: those in use, and none where the sizes don't fit.
+pub fn load(run: &[Entry], used: usize, words: &mut [u64], amounts: &mut [i64])
+    requires { ⌜ LedgerRoom (length (now run)) used (now words) (now amounts) ⌝ }
+    ensures { λ _. ⌜ entriesOf (now (words .exit)) (now (amounts .exit)) (readCount (length (now (run .entry))) used) ≡ take (readCount (length (now (run .entry))) used) (now (run .entry)) ⌝ }
+{
+    let n = soundness::read_count(run.len(), used);
+    let mut i = 0;
+    while i < n {
+        entries::set_entry(words, amounts, i, run[i]);
+        i += 1;
+    }
+}
+
+// Copies the entries from a place to before another back into the run. The rest of it stays.
+pub fn store(words: &[u64], amounts: &[i64], from: usize, to: usize, run: &mut [Entry])
+    requires { ⌜ (from ≤ to) × (to ≤ length (now run)) × RoomFor to (now words) (now amounts) ⌝ }
+    ensures { λ _. ⌜ now (run .exit) ≡ placed (now (run .entry)) (entriesOf (now (words .entry)) (now (amounts .entry)) to) from to ⌝ }
+{
+    let mut i = from;
+    while i < to {
+        run[i] = entries::entry_at(words, amounts, i);
+        i += 1;
+    }
+}

@@ -1,0 +1,683 @@
+"""Writes the proofs of the functions of crate lent_booking that book into a lent run: the lemmas of the covered callees, the walk of the function with lent words,
+the lemma of that function as a callee, and the walk of the function that a host calls. tools/walks.sh runs it."""
+
+from walk_text import *
+
+CRATE = "lent_booking"
+HERE = f"Rattle.{CRATE}.proofs."
+SPECS = f"""use Rattle.booking.specs.Booking.{{Input, bookResult, runAfter}}
+use Rattle.book.specs.Book.{{inputOf}}
+use Rattle.{CRATE}.specs.declared.BookReply.{{BookReply}}
+use Rattle.{CRATE}.specs.Replies.{{bookReply, HostBooked, writtenTo, writtenFrom}}
+use {HERE}BookReply as R
+"""
+NUMBER = {"retailer": ("u64", "gr"), "n": ("usize", "gn"), "used": ("usize", "gu"), "to": ("usize", "gt")}
+
+
+def owned(x):
+    k, g = NUMBER[x]
+    return f"owned ! {k} (Is {k}) (uint-makes 𝓤 H A W w64) {x} _ (refl, {g}) $ fjoin ! $ "
+
+
+def contract(f):
+    d = f.replace("_", "-")
+    return f"""
+module _ {GIVEN} {RUNNING} where
+  abbrev pub {camel(f)}Contract : Contract 𝓤
+  {camel(f)}Contract = tripleOf 𝓤 H A {d}.signature ({d}.spec 𝓤 H A mem run)
+"""
+
+
+INPUTS = """  abbrev sd : Val
+  sd = sliceVal (d .ptr) (length (d .now))
+
+  abbrev sf : Val
+  sf = sliceVal (f .ptr) (length (f .now))
+
+  abbrev OwnD : Fml
+  OwnD = ShrSlice (named 0) κd u8 .own d (sd ∷ [])
+
+  abbrev OwnF : Fml
+  OwnF = ShrSlice (named 1) κf u8 .own f (sf ∷ [])
+
+  -- the distributors and the file
+  abbrev inputs : Item 𝓤
+  inputs = ‵ OwnD ⊛ ‵ OwnF ⊛ ‵ (flft κd qd) ⊛ ‵ (flft κf qf)
+"""
+SLICE_VALUES = """  abbrev s₁ : Val
+  s₁ = sliceVal (b₁, o₁) m₁
+
+  abbrev s₂ : Val
+  s₂ = sliceVal (b₂, o₂) m₂
+"""
+CALLED_U8 = CALLED.replace("use denote.Builtin.{u64, i64, usize}", "use denote.Builtin.{u8, u64, i64, usize}")
+
+
+def core_called():
+    """`book_reply`: the words and the amounts are lent again; the distributors and the file are passed as copies of their `&`."""
+    cap = "BookReplyContract"
+    fact = "(x ≡ reply) × (entriesOf (ls .1 .1 .1 .0) (ls .1 .1 .1 .1 .0) n ≡ runAfter i)"
+    return f"""-- `{CRATE}::book_reply` as a walk by hand calls it: the words and the amounts, two slices `&mut` of the caller, are lent again for the call (`runs`'s `Lent.antt`); the distributors and the file are passed as copies of their `&`.
+-- Assumes `Given`, that the table of calls is monotone under a frame, and that its entry meets the callee's contract.
+{CALLED_U8}use Rattle.entries.specs.Words.{{RoomFor, entriesOf}}
+use Rattle.soundness.specs.Room.{{readCount}}
+use Rattle.runs.proofs.Lent.{{cites-by, words, lent, said, lends-got, lends-says, lends}}
+{SPECS}{symbols(CRATE, 'book_reply')}{contract('book_reply')}
+module _ {GIVEN} (W : Given 𝓤 H A) {RUNNING} (C : Calls 𝓤 H) (fm : FmC 𝓤 H (W .laws) C)
+    {LENT}
+    (known : Triple 𝓤 (C #book-reply) ({cap} 𝓤 H A mem run)) (retailer : ℕ) (κd κf : Lft) (qd qf : Share) (d f : RefT (List ℕ)) (n used : ℕ) where
+{SLICE_VALUES}
+{INPUTS}
+  abbrev vs : List Val
+  vs = vint w64 retailer ∷ sd ∷ sf ∷ s₁ ∷ s₂ ∷ vint w64 n ∷ vint w64 used ∷ []
+
+  abbrev i : Input
+  i = inputOf retailer (d .now) (f .now) (entriesOf ns zs n) used
+
+  abbrev reply : BookReply
+  reply = bookReply (bookResult i)
+
+  abbrev Answered : Val → List ℕ → List ℤ → Type 0
+  Answered w l₁ l₂ = Is R.the-row reply (w ∷ []) × (entriesOf l₁ l₂ n ≡ runAfter i)
+
+  abbrev pub book-reply-got : Val → Item 𝓤
+  book-reply-got = lends-got 𝓤 H A W C fm {SLICES} ns zs e₁ e₂ room₁ room₂ #book-reply vs inputs (λ _. inputs) Answered
+
+  abbrev Arg : Type 0
+  Arg = {nest_types(['ℕ', 'RefT (List ℕ)', 'RefT (List ℕ)', 'RefT (List ℕ)', 'RefT (List ℤ)', 'ℕ', 'ℕ'])}
+
+  abbrev Asked : Type 0
+  Asked = RoomFor (readCount n n) ns zs
+
+  module _ (ν₁ ν₂ : ℕ) (δ₁ δ₂ : GName) where
+    abbrev a : Arg
+    a = {nest(['retailer', 'd', 'f', 'record { ptr = (b₁, o₁); name = δ₁; now = ns }', 'record { ptr = (b₂, o₂); name = δ₂; now = zs }', 'n', 'used'])}
+
+    abbrev κs : {nest_types(['Lft'] * 4)}
+    κs = {nest(['κd', 'κf', 'ν₁ ∷ []', 'ν₂ ∷ []'])}
+
+    abbrev to : {cap} 𝓤 H A mem run .Ghost
+    to = ((κs, {nest(['qd', 'qf', 'fullShare', 'fullShare'])}, tt, a, {nest(['vint w64 retailer ∷ []', 'sd ∷ []', 'sf ∷ []', 's₁ ∷ []', 's₂ ∷ []', 'vint w64 n ∷ []', 'vint w64 used ∷ []'])}), tt)
+
+    abbrev has : Item 𝓤
+    has = lent 𝓤 H A W C fm {SLICES} ν₁ ν₂ δ₁ δ₂ ns zs
+
+    abbrev say : Val → Item 𝓤
+    say = lends-says 𝓤 H A W C fm {SLICES} ns zs e₁ e₂ room₁ room₂ #book-reply vs inputs (λ _. inputs) Answered ν₁ ν₂ δ₁ δ₂
+
+    asks : retailer < 2 ^ 64 → n < 2 ^ 64 → used < 2 ^ 64 → Asked → ent 𝓤 (⋆ 𝓤 H A (has ∷ ‵ (flft κd qd) ∷ ‵ OwnD ∷ ‵ (flft κf qf) ∷ ‵ OwnF ∷ [])) ({cap} 𝓤 H A mem run .pre to)
+    asks gr gn gu l =
+        qed W (has ∷ ‵ (flft κd qd) ∷ ‵ OwnD ∷ ‵ (flft κf qf) ∷ ‵ OwnF ∷ []) ∵ split ! $ move ! (1 ∷ []) $ split ! $ move ! (1 ∷ []) $ split ! $
+        -- [ν₁'s token; ν₂'s token; the amounts; the words; κd's token; the distributors; κf's token; the file]
+        says ! l $ nothing ! $ move ! (2 ∷ 0 ∷ []) $ join ! $ move ! (1 ∷ 0 ∷ []) $ join ! $ move ! (5 ∷ 0 ∷ []) $ join ! $ move ! (3 ∷ 0 ∷ []) $ join ! $ frame ! $
+        -- [the amounts; the words; the distributors; the file]
+        nothing ! $ {owned('used')}{owned('n')}move ! (1 ∷ 0 ∷ []) $ fjoin ! $ move ! (1 ∷ 0 ∷ []) $ fjoin ! $ move ! (2 ∷ 0 ∷ []) $ fjoin ! $ move ! (1 ∷ 0 ∷ []) $ fjoin ! $ {owned('retailer')}done !
+
+    copied : retailer < 2 ^ 64 → n < 2 ^ 64 → used < 2 ^ 64 → Asked → ent 𝓤 (sep 𝓤 (mean 𝓤 H A has) (mean 𝓤 H A inputs)) (sep 𝓤 ({cap} 𝓤 H A mem run .pre to) (sep 𝓤 (sem 𝓤 H A OwnD) (sem 𝓤 H A OwnF)))
+    copied gr gn gu l =
+        qed W (has ∷ inputs ∷ []) ∵ move ! (1 ∷ []) $ split ! $ use1 W (‵ OwnD ⊛ ‵ OwnD) (shr-slice-copy 𝓤 H A W (named 0) κd u8 .twice d (sd ∷ [])) $ split ! $
+        move ! (2 ∷ []) $ split ! $ use1 W (‵ OwnF ⊛ ‵ OwnF) (shr-slice-copy 𝓤 H A W (named 1) κf u8 .twice f (sf ∷ [])) $ split ! $ move ! (2 ∷ []) $ split ! $
+        -- [κd's token; κf's token; the file; the file; the distributors; the distributors; the words]
+        move ! (6 ∷ 0 ∷ 4 ∷ 1 ∷ 2 ∷ []) $ group ! 5 $ use1 W (raw ({cap} 𝓤 H A mem run .pre to)) (asks gr gn gu l) $ frame ! $ move ! (1 ∷ 0 ∷ []) $ done !
+
+    tells : (w : Val) → ent 𝓤 (sep 𝓤 ({cap} 𝓤 H A mem run .post to w) (sep 𝓤 (sem 𝓤 H A OwnD) (sem 𝓤 H A OwnF))) (mean 𝓤 H A (say w))
+    tells w =
+        qed W (raw ({cap} 𝓤 H A mem run .post to w) ∷ ‵ OwnD ∷ ‵ OwnF ∷ []) ∵ updating ! $
+        use1 W (later (some (λ (x : BookReply). ((‵ (flft κd qd) ⊛ ‵ (flft κf qf) ⊛ ‵ (flft (ν₁ ∷ []) fullShare) ⊛ ‵ (flft (ν₂ ∷ []) fullShare) ⊛ ‵ ftrue) ⊛ ‵ (R.the-row .own x (w ∷ []))) ⊛ raw (ensured 𝓤 H A book-reply.ended (book-reply.clauses 𝓤 H A mem run) κs a tt x)))) (id⊢ 𝓤 _) $ await ! tt $ pick ! (λ x.
+        split ! $ move ! (1 ∷ []) $ use1 W (some (λ (ls : {nest_types(['Unit {0}'] * 3 + ['List ℕ', 'List ℤ'] + ['Unit {0}'] * 2)}). ‵ (lasts book-reply.ended κs a ls) ⊛ raw (fact 𝓤 ({fact})))) (id⊢ 𝓤 _) $ pick ! (λ ls.
+        split ! $ move ! (1 ∷ []) $ heard ! ({fact}) (λ is.
+        -- [what is said of the last lists; the tokens and the result; the distributors; the file]
+        fsplit ! $ move ! (1 ∷ []) $ fsplit ! $ move ! (1 ∷ []) $ fsplit ! $ move ! (1 ∷ []) $ fsplit ! $ fsplit ! $ move ! (1 ∷ []) $ feqL ! (λ n₁. move ! (1 ∷ []) $ fsplit ! $ fsplit ! $ move ! (1 ∷ []) $ feqL ! (λ n₂.
+        -- [the last amounts; …; the last words; …; the tokens and the result; the distributors; the file]
+        move ! (6 ∷ []) $ split ! $ move ! (1 ∷ []) $ facts ! R.the-row (Is R.the-row) (shows 𝓤 H A R.the-row) x (w ∷ []) (λ g. split ! $ move ! (1 ∷ []) $ split ! $ move ! (1 ∷ []) $ split ! $ move ! (1 ∷ []) $ split ! $
+        -- [ν₂'s token; true; ν₁'s token; κf's token; κd's token; the last amounts; …; the last words; …; the distributors; the file]
+        at-once ! $ show ! (λ (l : List ℕ × List ℤ). mean 𝓤 H A (given (Answered w (l .0) (l .1) × ((length (l .0) ≡ length ns) × (length (l .1) ≡ length zs))) (said 𝓤 H A W C fm {SLICES} ν₁ ν₂ δ₁ δ₂ (l .0) (l .1) ⊛ inputs))) (ls .1 .1 .1 .0, ls .1 .1 .1 .1 .0) $
+        check ! ((subst (λ (y : BookReply). Is R.the-row y (w ∷ [])) (is .0) g, is .1), (n₁, n₂)) $ keep ! (7 ∷ 5 ∷ 2 ∷ 0 ∷ 11 ∷ 12 ∷ 4 ∷ 3 ∷ []) $ group ! 4 $ done !))))))
+
+  pub book-reply-called : retailer < 2 ^ 64 → n < 2 ^ 64 → used < 2 ^ 64 → Asked
+      → ent 𝓤 (sep 𝓤 (mean 𝓤 H A (words 𝓤 H A W C fm {SLICES} ns zs)) (mean 𝓤 H A inputs)) (H .⇛ (C #book-reply vs (λ w. mean 𝓤 H A (book-reply-got w))))
+  book-reply-called gr gn gu l =
+      lends 𝓤 H A W C fm {SLICES} ns zs e₁ e₂ room₁ room₂ #book-reply vs inputs (λ _. inputs) Answered
+      (λ ν₁ ν₂ δ₁ δ₂. cites-by 𝓤 H A W C fm #book-reply ({cap} 𝓤 H A mem run) known (to ν₁ ν₂ δ₁ δ₂) (sep 𝓤 (sem 𝓤 H A OwnD) (sem 𝓤 H A OwnF)) (copied ν₁ ν₂ δ₁ δ₂ gr gn gu l) (λ w. mean 𝓤 H A (say ν₁ ν₂ δ₁ δ₂ w)) (tells ν₁ ν₂ δ₁ δ₂))
+"""
+
+
+def written_called():
+    """`written_to`: an answer and a number. `written_from`: the words and the amounts are lent as `&`, and two numbers."""
+    to, fr = "WrittenToContract", "WrittenFromContract"
+    uses = CALLED.replace("{_≡_, refl, subst}", "{_≡_, refl, ap, _∙_}").replace("{owned, facts, heard, nothing}", "{only, owned, facts, heard, nothing}").replace("{ℕ, _<_, _^_}", "{ℕ, _+_, _≤_, _<_, _^_}").replace(
+        "{SProp, ent, sep, id⊢, exE, snd∗}", "{SProp, ent, sep, emp, id⊢, exE, snd∗}"
+    )
+    return f"""-- `{CRATE}::written_to` and `{CRATE}::written_from` as a walk by hand calls them: the first has an answer and a number, by value; to the second the words and the amounts, two slices `&mut` of the caller, are lent as `&` for the call (`runs`'s `Lent.antt`).
+-- Assumes `Given`, that the table of calls is monotone under a frame, and that its entry meets the callee's contract.
+{uses}use denote.RattleType.{{owns}}
+use denote.Struct.Laws as LL
+use Rattle.entries.specs.Words.{{RoomFor, entriesOf}}
+use Rattle.runs.proofs.Lent.{{cites, words, shared, shares-got, shares-says, shares}}
+use Rattle.{CRATE}.specs.declared.BookReply.{{BookReply}}
+use Rattle.{CRATE}.specs.Replies.{{writtenTo, writtenFrom}}
+use {HERE}BookReply as R
+use {HERE}BookReply.Laws as R′
+{symbols(CRATE, 'written_to')}{symbols(CRATE, 'written_from')}{contract('written_to')}{contract('written_from')}
+module _ {GIVEN} (W : Given 𝓤 H A) {RUNNING} (C : Calls 𝓤 H) (fm : FmC 𝓤 H (W .laws) C) where
+  module _ (known : Triple 𝓤 (C #written-to) ({to} 𝓤 H A mem run)) (x : BookReply) (v : Val) (used : ℕ) where
+    abbrev pub written-to-got : Val → Item 𝓤
+    written-to-got w = later (given (w ≡ vint w64 (writtenTo x used)) (‵ ftrue))
+
+    abbrev for-to : {to} 𝓤 H A mem run .Ghost
+    for-to = ((tt, tt, tt, (x, (used, tt)), (v ∷ [], (vint w64 used ∷ [], tt))), tt)
+
+    asks-to : Is R.the-row x (v ∷ []) → used < 2 ^ 64 → (x .number ≡ 0 → used + x .added ≤ 8192) → ent 𝓤 (emp 𝓤) ({to} 𝓤 H A mem run .pre for-to)
+    asks-to g gu l =
+        qed W [] ∵ says ! l $ nothing ! $ frame ! $ nothing ! $ {owned('used')}owned ! R.the-row (Is R.the-row) (LL.makes R.the-type R′.the-plain 𝓤 H A) x _ g $ fjoin ! $ done !
+
+    tells-to : (w : Val) → ent 𝓤 ({to} 𝓤 H A mem run .post for-to w) (mean 𝓤 H A (written-to-got w))
+    tells-to w =
+        qed W (raw ({to} 𝓤 H A mem run .post for-to w) ∷ []) ∵ updating ! $
+        use1 W (later (some (λ (y : ℕ). (‵ ftrue ⊛ ‵ (usize .own y (w ∷ []))) ⊛ raw (ensured 𝓤 H A written-to.ended (written-to.clauses 𝓤 H A mem run) tt (x, (used, tt)) tt y)))) (id⊢ 𝓤 _) $ await ! tt $ pick ! (λ y.
+        split ! $ move ! (1 ∷ []) $ use1 W (raw (fact 𝓤 (y ≡ writtenTo x used))) (exE 𝓤 _ (λ ws. snd∗ 𝓤 (sem 𝓤 H A (lasts written-to.ended tt (x, (used, tt)) ws)) (fact 𝓤 (y ≡ writtenTo x used)))) $ heard ! (y ≡ writtenTo x used) (λ is.
+        split ! $ move ! (1 ∷ []) $ facts ! usize (Is usize) (shows 𝓤 H A usize) y (w ∷ []) (λ p.
+        at-once ! $ check ! (ap only (p .0) ∙ ap (vint w64) is) $ done !)))
+
+    pub written-to-called : Is R.the-row x (v ∷ []) → used < 2 ^ 64 → (x .number ≡ 0 → used + x .added ≤ 8192)
+        → ent 𝓤 (emp 𝓤) (C #written-to (v ∷ vint w64 used ∷ []) (λ w. mean 𝓤 H A (written-to-got w)))
+    written-to-called g gu l = cites 𝓤 H A W C fm #written-to ({to} 𝓤 H A mem run) known for-to (asks-to g gu l) (λ w. mean 𝓤 H A (written-to-got w)) tells-to
+
+  module _ {LENT}
+      (known : Triple 𝓤 (C #written-from) ({fr} 𝓤 H A mem run)) (used to : ℕ) where
+    abbrev s₁ : Val
+    s₁ = sliceVal (b₁, o₁) m₁
+
+    abbrev s₂ : Val
+    s₂ = sliceVal (b₂, o₂) m₂
+
+    abbrev vs : List Val
+    vs = s₁ ∷ s₂ ∷ vint w64 used ∷ vint w64 to ∷ []
+
+    abbrev place : ℕ
+    place = writtenFrom (entriesOf ns zs to) used
+
+    abbrev Answered : Val → Type 0
+    Answered w = w ≡ vint w64 place
+
+    abbrev pub written-from-got : Val → Item 𝓤
+    written-from-got = shares-got 𝓤 H A W C fm {SLICES} ns zs e₁ e₂ room₁ room₂ #written-from vs (‵ ftrue) (λ _. ‵ ftrue) Answered
+
+    abbrev Arg : Type 0
+    Arg = {nest_types(['RefT (List ℕ)', 'RefT (List ℤ)', 'ℕ', 'ℕ'])}
+
+    abbrev Asked : Type 0
+    Asked = RoomFor to ns zs × (to ≤ 8192)
+
+    module _ (ν₁ ν₂ : ℕ) (δ₁ δ₂ : GName) where
+      abbrev a : Arg
+      a = {nest(['record { ptr = (b₁, o₁); name = δ₁; now = ns }', 'record { ptr = (b₂, o₂); name = δ₂; now = zs }', 'used', 'to'])}
+
+      abbrev for-from : {fr} 𝓤 H A mem run .Ghost
+      for-from = (((ν₁ ∷ [], (ν₂ ∷ [], tt)), (fullShare, (fullShare, tt)), tt, a, {nest(['s₁ ∷ []', 's₂ ∷ []', 'vint w64 used ∷ []', 'vint w64 to ∷ []'])}), tt)
+
+      abbrev has : Item 𝓤
+      has = shared 𝓤 H A W C fm {SLICES} ν₁ ν₂ δ₁ δ₂ ns zs
+
+      abbrev say : Val → Item 𝓤
+      say = shares-says 𝓤 H A W C fm {SLICES} ns zs e₁ e₂ room₁ room₂ #written-from vs (‵ ftrue) (λ _. ‵ ftrue) Answered ν₁ ν₂
+
+      asks-from : used < 2 ^ 64 → to < 2 ^ 64 → Asked → ent 𝓤 (sep 𝓤 (mean 𝓤 H A has) (sem 𝓤 H A ftrue)) ({fr} 𝓤 H A mem run .pre for-from)
+      asks-from gu gt l =
+          qed W (has ∷ ‵ ftrue ∷ []) ∵ split ! $ move ! (1 ∷ []) $ split ! $ move ! (1 ∷ []) $ split ! $
+          -- [ν₁'s token; ν₂'s token; the amounts; the words; true]
+          says ! l $ move ! (1 ∷ 4 ∷ []) $ join ! $ move ! (1 ∷ 0 ∷ []) $ join ! $ frame ! $
+          nothing ! $ {owned('to')}{owned('used')}move ! (1 ∷ 0 ∷ []) $ fjoin ! $ move ! (1 ∷ 0 ∷ []) $ fjoin ! $ done !
+
+      tells-from : (w : Val) → ent 𝓤 ({fr} 𝓤 H A mem run .post for-from w) (mean 𝓤 H A (say w))
+      tells-from w =
+          qed W (raw ({fr} 𝓤 H A mem run .post for-from w) ∷ []) ∵ updating ! $
+          use1 W (later (some (λ (x : ℕ). ((‵ (flft (ν₁ ∷ []) fullShare) ⊛ ‵ (flft (ν₂ ∷ []) fullShare) ⊛ ‵ ftrue) ⊛ ‵ (usize .own x (w ∷ []))) ⊛ raw (ensured 𝓤 H A written-from.ended (written-from.clauses 𝓤 H A mem run) (ν₁ ∷ [], (ν₂ ∷ [], tt)) a tt x)))) (id⊢ 𝓤 _) $ await ! tt $ pick ! (λ x.
+          split ! $ move ! (1 ∷ []) $ use1 W (raw (fact 𝓤 (x ≡ place))) (exE 𝓤 _ (λ ws. snd∗ 𝓤 (sem 𝓤 H A (lasts written-from.ended (ν₁ ∷ [], (ν₂ ∷ [], tt)) a ws)) (fact 𝓤 (x ≡ place)))) $ heard ! (x ≡ place) (λ is.
+          split ! $ move ! (1 ∷ []) $ facts ! usize (Is usize) (shows 𝓤 H A usize) x (w ∷ []) (λ p. split ! $ move ! (1 ∷ []) $ split ! $
+          -- [ν₂'s token; true; ν₁'s token]
+          at-once ! $ check ! (ap only (p .0) ∙ ap (vint w64) is) $ keep ! (2 ∷ 0 ∷ 1 ∷ []) $ group ! 2 $ done !)))
+
+    pub written-from-called : used < 2 ^ 64 → to < 2 ^ 64 → Asked
+        → ent 𝓤 (sep 𝓤 (mean 𝓤 H A (words 𝓤 H A W C fm {SLICES} ns zs)) (sem 𝓤 H A ftrue)) (H .⇛ (C #written-from vs (λ w. mean 𝓤 H A (written-from-got w))))
+    written-from-called gu gt l =
+        shares 𝓤 H A W C fm {SLICES} ns zs e₁ e₂ room₁ room₂ #written-from vs (‵ ftrue) (λ _. ‵ ftrue) Answered
+        (λ ν₁ ν₂ δ₁ δ₂. cites 𝓤 H A W C fm #written-from ({fr} 𝓤 H A mem run) known (for-from ν₁ ν₂ δ₁ δ₂) (asks-from ν₁ ν₂ δ₁ δ₂ gu gt l) (λ w. mean 𝓤 H A (say ν₁ ν₂ δ₁ δ₂ w)) (tells-from ν₁ ν₂ δ₁ δ₂))
+"""
+
+
+def inner_called():
+    """`book_in`: the words and the amounts are lent again, the run is given up for good, the distributors and the file are passed as copies of their `&`."""
+    cap = "BookInContract"
+    last = "ls .1 .1 .1 .0"
+    lists = "ls .1 .1 .1 .1 .1"
+    fact = f"HostBooked i x ({last})"
+    return f"""-- `{CRATE}::book_in` as a walk by hand calls it: the words and the amounts, two slices `&mut` of the caller, are lent again for the call (`runs`'s `Lent.antt`); the run is given up for good, and its last list is what Book leaves; the distributors and the file are passed as copies of their `&`.
+-- Assumes `Given`, that the table of calls is monotone under a frame, and that its entry meets the callee's contract.
+{CALLED_U8.replace('{_≡_, refl, subst}', '{_≡_, refl, sym, ap, subst, _∙_}').replace('pick, fsplit,', 'pick, rewrite, fsplit,').replace('{sliceVal, ShrSlice, Room, shr-slice-copy}', '{sliceVal, ShrSlice, MutSlice, Room, finally, shr-slice-copy}')}use Rattle.entries.specs.declared.Entry.{{Entry}}
+use Rattle.entries.specs.Words.{{RoomFor}}
+use Rattle.entries.proofs.Entry as T
+use Rattle.soundness.specs.Room.{{readCount}}
+use Rattle.runs.proofs.Lent.{{cites-by, words, lent, said, lends-got, lends-says, lends}}
+{SPECS}{symbols(CRATE, 'book_in')}{contract('book_in')}
+module _ {GIVEN} (W : Given 𝓤 H A) {RUNNING} (C : Calls 𝓤 H) (fm : FmC 𝓤 H (W .laws) C)
+    {LENT}
+    (known : Triple 𝓤 (C #book-in) ({cap} 𝓤 H A mem run)) (retailer : ℕ) (κd κf : Lft) (qd qf : Share) (d f : RefT (List ℕ)) (κ : Lft) (q : Share) (r : RefT (List Entry)) (used : ℕ) where
+{SLICE_VALUES}
+{INPUTS}
+  abbrev s : Val
+  s = sliceVal (r .ptr) (length (r .now))
+
+  abbrev Own : Fml
+  Own = MutSlice (named 2) κ T.the-row .own r (s ∷ [])
+
+  abbrev given-up : Item 𝓤
+  given-up = ‵ Own ⊛ ‵ (flft κ q) ⊛ inputs
+
+  abbrev vs : List Val
+  vs = vint w64 retailer ∷ sd ∷ sf ∷ s ∷ vint w64 used ∷ s₁ ∷ s₂ ∷ []
+
+  abbrev i : Input
+  i = inputOf retailer (d .now) (f .now) (r .now) used
+
+  abbrev reply : BookReply
+  reply = bookReply (bookResult i)
+
+  abbrev got-back : Val → Item 𝓤
+  got-back w = ‵ (finally T.the-row (r .name) (runAfter i)) ⊛ ‵ (flft κ q) ⊛ inputs
+
+  abbrev Answered : Val → List ℕ → List ℤ → Type 0
+  Answered w l₁ l₂ = Is R.the-row reply (w ∷ []) × (HostBooked i reply (runAfter i) × (length (runAfter i) ≡ length (r .now)))
+
+  abbrev pub book-in-got : Val → Item 𝓤
+  book-in-got = lends-got 𝓤 H A W C fm {SLICES} ns zs e₁ e₂ room₁ room₂ #book-in vs given-up got-back Answered
+
+  abbrev Arg : Type 0
+  Arg = {nest_types(['ℕ', 'RefT (List ℕ)', 'RefT (List ℕ)', 'RefT (List Entry)', 'ℕ', 'RefT (List ℕ)', 'RefT (List ℤ)'])}
+
+  abbrev Asked : Type 0
+  Asked = RoomFor (readCount (length (r .now)) (length (r .now))) ns zs
+
+  module _ (ν₁ ν₂ : ℕ) (δ₁ δ₂ : GName) where
+    abbrev a : Arg
+    a = {nest(['retailer', 'd', 'f', 'r', 'used', 'record { ptr = (b₁, o₁); name = δ₁; now = ns }', 'record { ptr = (b₂, o₂); name = δ₂; now = zs }'])}
+
+    abbrev κs : {nest_types(['Lft'] * 5)}
+    κs = {nest(['κd', 'κf', 'κ', 'ν₁ ∷ []', 'ν₂ ∷ []'])}
+
+    abbrev to : {cap} 𝓤 H A mem run .Ghost
+    to = ((κs, {nest(['qd', 'qf', 'q', 'fullShare', 'fullShare'])}, tt, a, {nest(['vint w64 retailer ∷ []', 'sd ∷ []', 'sf ∷ []', 's ∷ []', 'vint w64 used ∷ []', 's₁ ∷ []', 's₂ ∷ []'])}), tt)
+
+    abbrev has : Item 𝓤
+    has = lent 𝓤 H A W C fm {SLICES} ν₁ ν₂ δ₁ δ₂ ns zs
+
+    abbrev say : Val → Item 𝓤
+    say = lends-says 𝓤 H A W C fm {SLICES} ns zs e₁ e₂ room₁ room₂ #book-in vs given-up got-back Answered ν₁ ν₂ δ₁ δ₂
+
+    asks : retailer < 2 ^ 64 → used < 2 ^ 64 → Asked → ent 𝓤 (⋆ 𝓤 H A (has ∷ ‵ (flft κd qd) ∷ ‵ OwnD ∷ ‵ (flft κf qf) ∷ ‵ OwnF ∷ ‵ Own ∷ ‵ (flft κ q) ∷ [])) ({cap} 𝓤 H A mem run .pre to)
+    asks gr gu l =
+        qed W (has ∷ ‵ (flft κd qd) ∷ ‵ OwnD ∷ ‵ (flft κf qf) ∷ ‵ OwnF ∷ ‵ Own ∷ ‵ (flft κ q) ∷ []) ∵ split ! $ move ! (1 ∷ []) $ split ! $ move ! (1 ∷ []) $ split ! $
+        -- [ν₁'s token; ν₂'s token; the amounts; the words; κd's token; the distributors; κf's token; the file; the run; κ's token]
+        says ! l $ nothing ! $ move ! (2 ∷ 0 ∷ []) $ join ! $ move ! (1 ∷ 0 ∷ []) $ join ! $ move ! (8 ∷ 0 ∷ []) $ join ! $ move ! (5 ∷ 0 ∷ []) $ join ! $ move ! (3 ∷ 0 ∷ []) $ join ! $ frame ! $
+        -- [the amounts; the words; the distributors; the file; the run]
+        nothing ! $ move ! (1 ∷ 0 ∷ []) $ fjoin ! $ move ! (1 ∷ 0 ∷ []) $ fjoin ! $ {owned('used')}move ! (3 ∷ 0 ∷ []) $ fjoin ! $ move ! (2 ∷ 0 ∷ []) $ fjoin ! $ move ! (1 ∷ 0 ∷ []) $ fjoin ! $ {owned('retailer')}done !
+
+    copied : retailer < 2 ^ 64 → used < 2 ^ 64 → Asked → ent 𝓤 (sep 𝓤 (mean 𝓤 H A has) (mean 𝓤 H A given-up)) (sep 𝓤 ({cap} 𝓤 H A mem run .pre to) (sep 𝓤 (sem 𝓤 H A OwnD) (sem 𝓤 H A OwnF)))
+    copied gr gu l =
+        qed W (has ∷ given-up ∷ []) ∵ move ! (1 ∷ []) $ split ! $ move ! (1 ∷ []) $ split ! $ move ! (1 ∷ []) $
+        -- [the distributors and the file; κ's token; the run; the words]
+        split ! $ use1 W (‵ OwnD ⊛ ‵ OwnD) (shr-slice-copy 𝓤 H A W (named 0) κd u8 .twice d (sd ∷ [])) $ split ! $
+        move ! (2 ∷ []) $ split ! $ use1 W (‵ OwnF ⊛ ‵ OwnF) (shr-slice-copy 𝓤 H A W (named 1) κf u8 .twice f (sf ∷ [])) $ split ! $ move ! (2 ∷ []) $ split ! $
+        -- [κd's token; κf's token; the file; the file; the distributors; the distributors; κ's token; the run; the words]
+        move ! (8 ∷ 0 ∷ 4 ∷ 1 ∷ 2 ∷ 7 ∷ 6 ∷ []) $ group ! 7 $ use1 W (raw ({cap} 𝓤 H A mem run .pre to)) (asks gr gu l) $ frame ! $ move ! (1 ∷ 0 ∷ []) $ done !
+
+    tells : (w : Val) → ent 𝓤 (sep 𝓤 ({cap} 𝓤 H A mem run .post to w) (sep 𝓤 (sem 𝓤 H A OwnD) (sem 𝓤 H A OwnF))) (mean 𝓤 H A (say w))
+    tells w =
+        qed W (raw ({cap} 𝓤 H A mem run .post to w) ∷ ‵ OwnD ∷ ‵ OwnF ∷ []) ∵ updating ! $
+        use1 W (later (some (λ (x : BookReply). ((‵ (flft κd qd) ⊛ ‵ (flft κf qf) ⊛ ‵ (flft κ q) ⊛ ‵ (flft (ν₁ ∷ []) fullShare) ⊛ ‵ (flft (ν₂ ∷ []) fullShare) ⊛ ‵ ftrue) ⊛ ‵ (R.the-row .own x (w ∷ []))) ⊛ raw (ensured 𝓤 H A book-in.ended (book-in.clauses 𝓤 H A mem run) κs a tt x)))) (id⊢ 𝓤 _) $ await ! tt $ pick ! (λ x.
+        split ! $ move ! (1 ∷ []) $ use1 W (some (λ (ls : {nest_types(['Unit {0}'] * 3 + ['List Entry', 'Unit {0}', 'List ℕ', 'List ℤ'])}). ‵ (lasts book-in.ended κs a ls) ⊛ raw (fact 𝓤 ({fact})))) (id⊢ 𝓤 _) $ pick ! (λ ls.
+        split ! $ move ! (1 ∷ []) $ heard ! ({fact}) (λ is.
+        -- [what is said of the last lists; the tokens and the result; the distributors; the file]
+        fsplit ! $ move ! (1 ∷ []) $ fsplit ! $ move ! (1 ∷ []) $ fsplit ! $ move ! (1 ∷ []) $ fsplit ! $ fsplit ! $ move ! (1 ∷ []) $ feqL ! (λ n₀. move ! (1 ∷ []) $ fsplit ! $ move ! (1 ∷ []) $ fsplit ! $ fsplit ! $ move ! (1 ∷ []) $ feqL ! (λ n₁. move ! (1 ∷ []) $ fsplit ! $ fsplit ! $ move ! (1 ∷ []) $ feqL ! (λ n₂.
+        -- [the last amounts; true; the last words; true; the run's last list; true; true; true; the tokens and the result; the distributors; the file]
+        rewrite ! 4 (λ (l : List Entry). ‵ (finally T.the-row (r .name) l)) (is .books .leaves-run) refl $
+        move ! (8 ∷ []) $ split ! $ move ! (1 ∷ []) $ facts ! R.the-row (Is R.the-row) (shows 𝓤 H A R.the-row) x (w ∷ []) (λ g. split ! $ move ! (1 ∷ []) $ split ! $ move ! (1 ∷ []) $ split ! $ move ! (1 ∷ []) $ split ! $ move ! (1 ∷ []) $ split ! $
+        -- [ν₂'s token; true; ν₁'s token; κ's token; κf's token; κd's token; the last amounts; true; the last words; true; the run's last list; …; the distributors; the file]
+        at-once ! $ show ! (λ (l : List ℕ × List ℤ). mean 𝓤 H A (given (Answered w (l .0) (l .1) × ((length (l .0) ≡ length ns) × (length (l .1) ≡ length zs))) (said 𝓤 H A W C fm {SLICES} ν₁ ν₂ δ₁ δ₂ (l .0) (l .1) ⊛ got-back w))) ({lists} .0, {lists} .1 .0) $
+        check ! ((subst (λ (y : BookReply). Is R.the-row y (w ∷ [])) (is .replies) g, (subst (λ (p : BookReply × List Entry). HostBooked i (p .0) (p .1)) (λ t. (is .replies t, is .books .leaves-run t)) is, ap length (sym (is .books .leaves-run)) ∙ n₀)), (n₁, n₂)) $
+        keep ! (8 ∷ 6 ∷ 2 ∷ 0 ∷ 10 ∷ 3 ∷ 14 ∷ 15 ∷ 5 ∷ 4 ∷ []) $ group ! 4 $ done !)))))))
+
+  pub book-in-called : retailer < 2 ^ 64 → used < 2 ^ 64 → Asked
+      → ent 𝓤 (sep 𝓤 (mean 𝓤 H A (words 𝓤 H A W C fm {SLICES} ns zs)) (mean 𝓤 H A given-up)) (H .⇛ (C #book-in vs (λ w. mean 𝓤 H A (book-in-got w))))
+  book-in-called gr gu l =
+      lends 𝓤 H A W C fm {SLICES} ns zs e₁ e₂ room₁ room₂ #book-in vs given-up got-back Answered
+      (λ ν₁ ν₂ δ₁ δ₂. cites-by 𝓤 H A W C fm #book-in ({cap} 𝓤 H A mem run) known (to ν₁ ν₂ δ₁ δ₂) (sep 𝓤 (sem 𝓤 H A OwnD) (sem 𝓤 H A OwnF)) (copied ν₁ ν₂ δ₁ δ₂ gr gu l) (λ w. mean 𝓤 H A (say ν₁ ν₂ δ₁ δ₂ w)) (tells ν₁ ν₂ δ₁ δ₂))
+"""
+
+
+WALK_BOOK = (
+    WALK.replace("use denote.Builtin.{u64, i64, usize}", "use denote.Builtin.{u8, u64, i64, usize}")
+    .replace("use types.Tokens.{lft-new}", "use types.Tokens.{lft-new, lft-end}")
+    .replace("{look, init, forget,", "{look, store as stores, init, forget,")
+    .replace("drop as loses, use1, use2, use3,", "drop as loses, use0, use1, use2, use3,")
+    .replace("pick, learn, fsplit,", "pick, learn, rewrite, fsplit,")
+    .replace("froom}", "froom, fat}")
+    .replace("{sliceVal, ShrSlice, MutSlice, Room, slice-vals,", "{sliceVal, ShrSlice, MutSlice, Room, finally, slice-vals,")
+    .replace("stay-none-slice, stay-slice, walkOf, goes-none, goes-none-slice, goes-slice,", "stay-none-slice, stay-slice, gave-slice, walkOf, goes-none, goes-none-slice, goes-slice, goes-gave-slice,")
+)
+PARAMS = ["stay-none (λ _. u64) yes", "stay-none-slice (0 ∷ []) tt (plain (λ _. u8)) yes", "stay-none-slice (1 ∷ []) tt (plain (λ _. u8)) yes", "gave-slice (2 ∷ []) tt (plain (λ _. T.the-row))", "stay-none (λ _. usize) yes"]
+
+
+def goes(k):
+    return [
+        f"goes-none 𝓤 H A W {k} (λ _. u64) yes (λ κs x f. refl)",
+        f"goes-none-slice 𝓤 H A W {k} (0 ∷ []) tt (plain (λ _. u8)) yes",
+        f"goes-none-slice 𝓤 H A W {k} (1 ∷ []) tt (plain (λ _. u8)) yes",
+        f"goes-gave-slice 𝓤 H A W {k} 2 tt (plain (λ _. T.the-row))",
+        f"goes-none 𝓤 H A W {k} (λ _. usize) yes (λ κs x f. refl)",
+    ]
+
+
+VALS = ["uint-vals w64", "slice-vals", "slice-vals", "slice-vals", "uint-vals w64"]
+TELLS = ["uint-tells w64", "shr-slice-tells (named 0) (κs .0) u8", "shr-slice-tells (named 1) (κs .1 .0) u8", "mut-slice-tells (named 2) (κs .1 .1 .0) T.the-row", "uint-tells w64"]
+RUN = """  abbrev n : ℕ
+  n = length ys
+
+  abbrev s₀ : Val
+  s₀ = sliceVal (b₀, o₀) n
+
+  -- the run, under the name δ
+  abbrev x₀ : GName → RefT (List Entry)
+  x₀ δ = record { ptr = (b₀, o₀); name = δ; now = ys }
+
+  abbrev i : Input
+  i = inputOf retailer (d .now) (f .now) ys used
+"""
+
+
+def inner_walk():
+    """A straight line: `load` on the run lent as a `&`, `book_reply`, the two places, and `store`, to which the run is given up."""
+    n = 33
+    words, amounts, places, reply, to, fr, unit = 6, 7, 8, 9, 10, 11, 12
+    here = lambda h: (lambda j: h + 2 * (n - 1 - j))
+    lent = "κ₁ κ₂ q₁ q₂ b₁ o₁ b₂ o₂ γ₁ γ₂ m₁ m₂"
+    laws = "retailer (d .now) (f .now) ys used (ls .0) (ls .1) (is .0 .1) (ks .0) (ks .1)"
+    answer = "(bookReply (bookResult (inputOf retailer (d .now) (f .now) (entriesOf (ls .0) (ls .1) n) used)))"
+    goal = f"(writtenTo {answer} used)"
+    place = f"(writtenFrom (entriesOf (ks .0) (ks .1) {goal}) used)"
+    known = [("known-load", "load", "Load"), ("known-core", "book-reply", "BookReplyContract"), ("known-to", "written-to", "WrittenToContract"), ("known-from", "written-from", "WrittenFromContract"), ("known-store", "store", "Store")]
+    κs = nest(["κd", "κf", "κ₀", "κ₁", "κ₂"])
+    qs = nest(["qd", "qf", "q₀", "q₁", "q₂"])
+    number = lambda v: f"(subst (λ (z : Val). T (hasTy (tyInt w64) z) × WT z) (sym {v}) "
+    text = f"""-- `{CRATE}::book_in` meets its contract: a walk of its MIR, by hand, in a straight line. `load` is called on the run, which is lent as a `&` for the call; then `book_reply`; then `written_to` and `written_from`, which say which places are copied back; then `store`, to which the run is given up for good.
+-- Of each callee the proof knows only that it meets its contract (`BookReplyCalled.antt`, `WrittenCalled.antt`; `runs`'s `Runs.antt`).
+-- Assumes nothing.
+{WALK_BOOK}use Rattle.entries.proofs.Room.{{room-same}}
+use Rattle.book.proofs.Rooms.{{used-room}}
+use Rattle.runs.specs.Copies.{{placed}}
+use Rattle.runs.proofs.Again.{{SharedAgain, shares-again, comes-home}}
+use Rattle.runs.proofs.Lent.{{words}}
+use Rattle.runs.proofs.Runs.{{Load, Store, load-got, load-called, store-got, store-called}}
+use Rattle.runs.proofs.load.Symbol as load-def
+use Rattle.runs.proofs.load.Symbol.{{name as #load}}
+use Rattle.runs.proofs.load.Met as load-thm
+use Rattle.runs.proofs.store.Symbol as store-def
+use Rattle.runs.proofs.store.Symbol.{{name as #store}}
+use Rattle.runs.proofs.store.Met as store-thm
+{SPECS}use {HERE}BookReply.Laws as R′
+use {HERE}Laws.{{to-small, from-small, added-fits, may-read, may-store, wrapped}}
+use {HERE}BookReplyCalled.{{BookReplyContract, book-reply-got, book-reply-called}}
+use {HERE}WrittenCalled.{{WrittenToContract, WrittenFromContract, written-to-got, written-to-called, written-from-got, written-from-called}}
+{walk_symbols(CRATE, 'book_reply')}{walk_symbols(CRATE, 'written_to')}{walk_symbols(CRATE, 'written_from')}{this_symbols(CRATE, 'book_in')}
+abbrev stayed : Stays (this.ended .signature .params) (this.ended .kept)
+stayed = {nest(PARAMS + ['stay-slice (3 ∷ []) tt (plain (λ _. u64))', 'stay-slice (4 ∷ []) tt (plain (λ _. i64))'])}
+
+module _ {GIVEN} (W : Given 𝓤 H A) {RUNNING}
+    (κd κf κ₀ κ₁ κ₂ : Lft) (qd qf q₀ q₁ q₂ : Share) (retailer : ℕ) (d f : RefT (List ℕ)) (b₀ o₀ : ℕ) (γ₀ : GName) (ys : List Entry) (used b₁ o₁ b₂ o₂ : ℕ) (γ₁ γ₂ : GName) (ns₀ : List ℕ) (zs₀ : List ℤ) where
+{RUN}
+  abbrev m₁ : ℕ
+  m₁ = length ns₀
+
+  abbrev m₂ : ℕ
+  m₂ = length zs₀
+
+{SLICE_VALUES}
+{INPUTS}
+  abbrev Arg : Type 0
+  Arg = {nest_types(['ℕ', 'RefT (List ℕ)', 'RefT (List ℕ)', 'RefT (List Entry)', 'ℕ', 'RefT (List ℕ)', 'RefT (List ℤ)'])}
+
+  abbrev a : Arg
+  a = {nest(['retailer', 'd', 'f', 'x₀ γ₀', 'used', 'record { ptr = (b₁, o₁); name = γ₁; now = ns₀ }', 'record { ptr = (b₂, o₂); name = γ₂; now = zs₀ }'])}
+
+  abbrev at : {nest_types(['List Val'] * 7)}
+  at = {nest(['vint w64 retailer ∷ []', 'sd ∷ []', 'sf ∷ []', 's₀ ∷ []', 'vint w64 used ∷ []', 's₁ ∷ []', 's₂ ∷ []'])}
+
+  abbrev vs : List Val
+  vs = vint w64 retailer ∷ sd ∷ sf ∷ s₀ ∷ vint w64 used ∷ s₁ ∷ s₂ ∷ []
+
+  abbrev Post : Val → SProp 𝓤
+  Post = walkOf 𝓤 H A this.ended stayed (this.clauses 𝓤 H A mem run) .post (({κs}, {qs}, tt, a, at), tt)
+
+  abbrev Own₁ : List ℕ → Fml
+  Own₁ l = MutSlice (named 3) κ₁ u64 .own (record {{ ptr = (b₁, o₁); name = γ₁; now = l }}) (s₁ ∷ [])
+
+  abbrev Own₂ : List ℤ → Fml
+  Own₂ l = MutSlice (named 4) κ₂ i64 .own (record {{ ptr = (b₂, o₂); name = γ₂; now = l }}) (s₂ ∷ [])
+
+  exits : (last : List Entry) (ns : List ℕ) (zs : List ℤ) (w : Val) (x : BookReply) → retailer < 2 ^ 64 → used < 2 ^ 64 → length last ≡ n → length ns ≡ m₁ → length zs ≡ m₂ → HostBooked i x last → Is R.the-row x (w ∷ [])
+      → ent 𝓤 (⋆ 𝓤 H A (‵ (Own₁ ns) ∷ ‵ (Own₂ zs) ∷ ‵ (flft κ₁ q₁) ∷ ‵ (flft κ₂ q₂) ∷ ‵ (finally T.the-row γ₀ last) ∷ ‵ (flft κ₀ q₀) ∷ inputs ∷ [])) (Post w)
+  exits last ns zs w x gr gu e₀ e₁ e₂ is g =
+      qed W (‵ (Own₁ ns) ∷ ‵ (Own₂ zs) ∷ ‵ (flft κ₁ q₁) ∷ ‵ (flft κ₂ q₂) ∷ ‵ (finally T.the-row γ₀ last) ∷ ‵ (flft κ₀ q₀) ∷ inputs ∷ []) ∵
+      suffices ! _ (ends-at 𝓤 H A this.ended stayed (this.clauses 𝓤 H A mem run) W (({κs}, {qs}, tt, a, at), tt) w x {nest(['tt', 'tt', 'tt', 'last', 'tt', 'ns', 'zs'])} {nest(['tt', 'tt', 'tt', 'e₀', 'tt', 'e₁', 'e₂'])}) $
+      says ! is $ move ! (6 ∷ []) $ split ! $ move ! (1 ∷ []) $ split ! $ move ! (1 ∷ []) $ split ! $
+      -- [κd's token; κf's token; the file; the distributors; the words; the amounts; κ₁'s token; κ₂'s token; the run's last list; κ₀'s token]
+      nothing ! $ move ! (8 ∷ 0 ∷ []) $ join ! $ move ! (7 ∷ 0 ∷ []) $ join ! $ move ! (8 ∷ 0 ∷ []) $ join ! $ move ! (2 ∷ 0 ∷ []) $ join ! $ move ! (1 ∷ 0 ∷ []) $ join ! $ frame ! $
+      -- [the file; the distributors; the words; the amounts; the run's last list]
+      nothing ! $ move ! (4 ∷ 0 ∷ []) $ fjoin ! $ move ! (3 ∷ 0 ∷ []) $ fjoin ! $ {owned('used')}move ! (3 ∷ 0 ∷ []) $ fjoin ! $ move ! (1 ∷ 0 ∷ []) $ fjoin ! $ move ! (1 ∷ 0 ∷ []) $ fjoin ! $ {owned('retailer')}frame ! $
+      owned ! R.the-row (Is R.the-row) (LL.makes R.the-type R′.the-plain 𝓤 H A) x _ g $ done !
+
+  module _ (C : Calls 𝓤 H) (Λ : Loops 𝓤 H) (fm : FmC 𝓤 H (W .laws) C)
+      {' '.join(f'({k} : Triple 𝓤 (C #{c}) ({con} 𝓤 H A mem run))' for k, c, con in known)}
+      (gr : retailer < 2 ^ 64) (room-d : Room u8 (length (d .now))) (room-f : Room u8 (length (f .now))) (room₀ : Room T.the-row n) (gu : used < 2 ^ 64) (room₁ : Room u64 m₁) (room₂ : Room i64 m₂) (wide : RoomFor (readCount n n) ns₀ zs₀) where
+    -- what the run's holder keeps while it is lent as a `&` for ν
+    abbrev kept : ℕ → Fml
+    kept ν = SharedAgain T.the-row κ₀ (ν ∷ []) q₀ γ₀ b₀ o₀ ys
+
+    -- what each call leaves
+    abbrev loaded : ℕ → GName → Val → Item 𝓤
+    loaded ν δ = load-got 𝓤 H A W mem run C fm {lent} ns₀ zs₀ refl refl room₁ room₂ known-load (ν ∷ []) fullShare (x₀ δ) used
+
+    module _ (ns : List ℕ) (zs : List ℤ) (e₁ : length ns ≡ m₁) (e₂ : length zs ≡ m₂) where
+      abbrev worked : Val → Item 𝓤
+      worked = book-reply-got 𝓤 H A W mem run C fm {lent} ns zs e₁ e₂ room₁ room₂ known-core retailer κd κf qd qf d f n used
+
+      abbrev found : ℕ → Val → Item 𝓤
+      found to = written-from-got 𝓤 H A W mem run C fm {lent} ns zs e₁ e₂ room₁ room₂ known-from used to
+
+      abbrev stored : ℕ → ℕ → Val → Item 𝓤
+      stored from to = store-got 𝓤 H A W mem run C fm {lent} ns zs e₁ e₂ room₁ room₂ known-store κ₀ q₀ (x₀ γ₀) from to
+
+    walk : ent 𝓤 (onEntry 𝓤 H A this.signature {κs} {qs} a at) (WpFn 𝓤 H C Λ code.function vs Post)
+    walk =
+        qed W ((‵ (flft κd qd) ⊛ ‵ (flft κf qf) ⊛ ‵ (flft κ₀ q₀) ⊛ ‵ (flft κ₁ q₁) ⊛ ‵ (flft κ₂ q₂) ⊛ ‵ ftrue) ∷ ‵ (owns (u64 ∷ ShrSlice (named 0) κd u8 ∷ ShrSlice (named 1) κf u8 ∷ MutSlice (named 2) κ₀ T.the-row ∷ usize ∷ MutSlice (named 3) κ₁ u64 ∷ MutSlice (named 4) κ₂ i64 ∷ []) a at) ∷ []) ∵
+        split ! $ {'move ! (1 ∷ []) $ split ! $ ' * 4}move ! (6 ∷ []) $ fsplit ! $ {'move ! (1 ∷ []) $ fsplit ! $ ' * 6}
+        -- [the amounts; true; the words; used; the run; the file; the distributors; the retailer; κ₂'s token; true; κ₁'s token; κ₀'s token; κf's token; κd's token]
+        keep ! (6 ∷ 5 ∷ 13 ∷ 12 ∷ 2 ∷ 0 ∷ 10 ∷ 8 ∷ 4 ∷ 11 ∷ []) $ group ! 4 $ move ! (1 ∷ 2 ∷ 3 ∷ 4 ∷ []) $ group ! 4 $ enter ! C Λ code.function vs _ $
+        {''.join(f'alloc1 ! (λ {local(j)}. ' for j in range(n))}alloc0 ! $ params1 ! $
+        pass1 ! (init ! {here(0)(1)} refl (tt, record {{ fits = gr }})) $ pass1 ! (init ! {here(0)(2)} refl (tt, (tt, (record {{ fits = room-d .0 }}, tt)))) $ pass1 ! (init ! {here(0)(3)} refl (tt, (tt, (record {{ fits = room-f .0 }}, tt)))) $ pass1 ! (init ! {here(0)(4)} refl (tt, (tt, (record {{ fits = room₀ .0 }}, tt)))) $ pass1 ! (init ! {here(0)(5)} refl (tt, record {{ fits = gu }})) $ pass1 ! (init ! {here(0)(6)} refl (tt, (tt, (record {{ fits = room₁ .0 }}, tt)))) $ pass1 ! (init ! {here(0)(7)} refl (tt, (tt, (record {{ fits = room₂ .0 }}, tt)))) $ pass0 ! $
+        move ! ({2 * n} ∷ {2 * n + 2} ∷ {2 * n + 3} ∷ {2 * n + 1} ∷ []) $
+        -- [the words and the amounts; the run; κ₀'s token; the inputs; the locals]
+        {again(here(4), 4, 13, 14, 'room₀')}{again(here(4), words, 15, 16, 'room₁')}{again(here(4), amounts, 17, 18, 'room₂')}-- the run is lent as a `&`, for a lifetime ν of the call
+        lft-new ! tt (λ ν. move ! (2 ∷ 3 ∷ []) $
+        use2 W (later (some (λ (δ : GName). ‵ (ShrSlice (named 0) (ν ∷ []) T.the-row .own (x₀ δ) (s₀ ∷ [])) ⊛ ‵ (kept ν)))) (shares-again T.the-row κ₀ (ν ∷ []) q₀ γ₀ b₀ o₀ 𝓤 H A W (named 0) (named 0) ys n refl) $ await ! tt $ pick ! (λ δ. split ! $
+        -- [the run, shared; what is kept; ν's token; the words and the amounts; the inputs; the locals]
+        move ! (0 ∷ 2 ∷ []) $ join ! $ move ! (2 ∷ 0 ∷ []) $
+        use2 W (later (raw (C #load (s₀ ∷ vint w64 used ∷ s₁ ∷ s₂ ∷ []) (λ w. ⋆ 𝓤 H A (loaded ν δ w ∷ [])))))
+        (load-called 𝓤 H A W mem run C fm {lent} ns₀ zs₀ refl refl room₁ room₂ known-load (ν ∷ []) fullShare (x₀ δ) used gu (used-room ns₀ zs₀ n used wide)) $ await ! tt $
+        calls ! fm (loaded ν δ) {operands([14, 5, 16, 18], here(3))} (λ w. await ! tt $ pick ! (λ ls. learn ! (λ is.
+        land ! (from ! (stop !)) (init ! {here(3)(unit)} refl (subst (λ (z : Val). T (hasTy tyUnit z) × WT z) (sym (is .0 .0)) (tt, tt))) $ split ! $ move ! (1 ∷ []) $ split ! $ loses ! $
+        -- [ν's token; the words and the amounts; what is kept; the inputs; the locals]: ν is ended, and the run is back
+        lft-end ! tt $ move ! (0 ∷ 2 ∷ []) $ use2 W (later (‵ (MutSlice (named 0) κ₀ T.the-row .own (x₀ γ₀) (s₀ ∷ [])) ⊛ ‵ (flft κ₀ q₀))) (comes-home T.the-row κ₀ (ν ∷ []) q₀ γ₀ b₀ o₀ 𝓤 H A W (named 0) (named 0) ys n refl room₀) $ await ! tt $
+        -- [the run, and its token; the words and the amounts; the inputs; the locals]: `book_reply` is called
+        assigns ! (of-opd ! (loads ! (from ! (fld ! refl (stop !))) (look-in ! {here(3)(4)} (sub ! 1 refl (whole !))))) (from ! (stop !)) (init ! {here(3)(places)} refl (tt, record {{ fits = room₀ .0 }})) $
+        {again(here(3), words, 19, 20, 'room₁')}{again(here(3), amounts, 21, 22, 'room₂')}move ! (1 ∷ 2 ∷ []) $
+        use2 W (later (raw (C #book-reply (vint w64 retailer ∷ sd ∷ sf ∷ s₁ ∷ s₂ ∷ vint w64 n ∷ vint w64 used ∷ []) (λ u. ⋆ 𝓤 H A (worked (ls .0) (ls .1) (is .1 .0) (is .1 .1) u ∷ [])))))
+        (book-reply-called 𝓤 H A W mem run C fm {lent} (ls .0) (ls .1) (is .1 .0) (is .1 .1) room₁ room₂ known-core retailer κd κf qd qf d f n used gr (room₀ .0) gu (room-same (is .1 .0) (is .1 .1) wide)) $ await ! tt $
+        calls ! fm (worked (ls .0) (ls .1) (is .1 .0) (is .1 .1)) {operands([1, 2, 3, 20, 22, places, 5], here(2))} (λ u. await ! tt $ pick ! (λ ks. learn ! (λ ms.
+        land ! (from ! (stop !)) (init ! {here(2)(reply)} refl (LL.lawful R.the-type R′.the-laws 𝓤 H A W .typed {answer} _ (ms .0 .0) .0)) $ split ! $
+        -- [the words and the amounts; the inputs; the run, and its token; the locals]: `written_to` is called
+        use0 W (raw (C #written-to (u ∷ vint w64 used ∷ []) (λ v. ⋆ 𝓤 H A (written-to-got 𝓤 H A W mem run C fm known-to {answer} u used v ∷ [])))) (written-to-called 𝓤 H A W mem run C fm known-to {answer} u used (ms .0 .0) gu (added-fits {laws})) $
+        calls ! fm (written-to-got 𝓤 H A W mem run C fm known-to {answer} u used) {operands([reply, 5], here(4))} (λ v. await ! tt $ learn ! (λ vt.
+        land ! (from ! (stop !)) (init ! {here(4)(to)} refl {number('vt')}(tt, record {{ fits = to-small {laws} }}))) $ loses ! $
+        rewrite ! {here(3)(to)} (λ (z : Val). ‵ (fat fullShare (tyInt w64) {local(to)} 0 z)) vt refl $
+        -- `written_from` is called
+        {again(here(3), words, 23, 24, 'room₁')}{again(here(3), amounts, 25, 26, 'room₂')}nothing ! $ move ! (1 ∷ 0 ∷ []) $
+        use2 W (later (raw (C #written-from (s₁ ∷ s₂ ∷ vint w64 used ∷ vint w64 {goal} ∷ []) (λ x. ⋆ 𝓤 H A (found (ks .0) (ks .1) (ms .1 .0) (ms .1 .1) {goal} x ∷ [])))))
+        (written-from-called 𝓤 H A W mem run C fm {lent} (ks .0) (ks .1) (ms .1 .0) (ms .1 .1) room₁ room₂ known-from used {goal} gu (to-small {laws}) (may-read {laws} (room-same (ms .1 .0) (ms .1 .1) wide))) $ await ! tt $
+        calls ! fm (found (ks .0) (ks .1) (ms .1 .0) (ms .1 .1) {goal}) {operands([24, 26, 5, to], here(3))} (λ x. await ! tt $ learn ! (λ vf.
+        land ! (from ! (stop !)) (init ! {here(3)(fr)} refl {number('vf')}(tt, record {{ fits = from-small {laws} }}))) $ split ! $ move ! (1 ∷ []) $ loses ! $
+        rewrite ! {here(3)(fr)} (λ (z : Val). ‵ (fat fullShare (tyInt w64) {local(fr)} 0 z)) vf refl $
+        -- [the words and the amounts; the inputs; the run, and its token; the locals]: `store` is called
+        {again(here(3), words, 27, 28, 'room₁')}{again(here(3), amounts, 29, 30, 'room₂')}{again(here(3), 4, 31, 32, 'room₀')}move ! (0 ∷ 2 ∷ []) $
+        use2 W (later (raw (C #store (s₁ ∷ s₂ ∷ vint w64 {place} ∷ vint w64 {goal} ∷ s₀ ∷ []) (λ z. ⋆ 𝓤 H A (stored (ks .0) (ks .1) (ms .1 .0) (ms .1 .1) {place} {goal} z ∷ [])))))
+        (store-called 𝓤 H A W mem run C fm {lent} (ks .0) (ks .1) (ms .1 .0) (ms .1 .1) room₁ room₂ known-store κ₀ q₀ (x₀ γ₀) {place} {goal} (from-small {laws}) (to-small {laws}) (may-store {laws} (room-same (ms .1 .0) (ms .1 .1) wide))) $ await ! tt $
+        calls ! fm (stored (ks .0) (ks .1) (ms .1 .0) (ms .1 .1) {place} {goal}) {operands([28, 30, fr, to, 32], here(2))} (λ z. await ! tt $ learn ! (λ ws.
+        land ! (from ! (stop !)) (stores ! {here(2)(unit)} refl (subst (λ (y : Val). T (hasTy tyUnit y) × WT y) (sym (ws .0)) (tt, tt))) $ split ! $ move ! (1 ∷ []) $ split ! $ move ! (2 ∷ 0 ∷ 1 ∷ 3 ∷ []) $
+        -- [the words and the amounts; the run's last list; κ₀'s token; the inputs; the locals]
+        assigns ! (of-opd ! (loads ! (from ! (stop !)) (look ! {here(4)(reply)} refl))) (from ! (stop !)) (init ! {here(4)(0)} refl (LL.lawful R.the-type R′.the-laws 𝓤 H A W .typed {answer} _ (ms .0 .0) .0)) $
+        split ! $ move ! (1 ∷ []) $ split ! $ move ! (1 ∷ []) $ split ! $ move ! (3 ∷ 2 ∷ 0 ∷ 1 ∷ []) $
+        -- [the words; the amounts; κ₁'s token; κ₂'s token; the run's last list; κ₀'s token; the inputs; the locals]
+        returns ! (look ! {here(7)(0)} refl) $ {' $ '.join(f'forget ! {here(7)(j)} refl' for j in range(n))} $
+        {frees(n, ['words', 'amounts', 'κ₁', 'κ₂', 'last', 'κ₀', 'inputs'], [])} $
+        by ! (exits _ (ks .0) (ks .1) u {answer} gr gu (ws .1) (ms .1 .0) (ms .1 .1) (wrapped {laws} (ms .0 .1)) (ms .0 .0)){')' * (2 + 3 + 3 + 2 + 2 + 2 + n)}
+"""
+    return text + closing(
+        "book_in", VALS + ["slice-vals"] * 2, TELLS + ["mut-slice-tells (named 3) (κs .1 .1 .1 .0) u64", "mut-slice-tells (named 4) (κs .1 .1 .1 .1 .0) i64"],
+        "needs 𝓤 (RoomFor (readCount (length (now (a .1 .1 .1 .0))) (length (now (a .1 .1 .1 .0)))) (now (a .1 .1 .1 .1 .1 .0)) (now (a .1 .1 .1 .1 .1 .1 .0))) _",
+        "(κs .0) (κs .1 .0) (κs .1 .1 .0) (κs .1 .1 .1 .0) (κs .1 .1 .1 .1 .0) (qs .0) (qs .1 .0) (qs .1 .1 .0) (qs .1 .1 .1 .0) (qs .1 .1 .1 .1 .0) (a .0) (a .1 .0) (a .1 .1 .0) (a .1 .1 .1 .0 .ptr .0) (a .1 .1 .1 .0 .ptr .1) (a .1 .1 .1 .0 .name) (a .1 .1 .1 .0 .now) (a .1 .1 .1 .1 .0)"
+        + "".join(f" (a .1 .1 .1 .1 {'.1 ' * k}.0 .ptr .{i})" for k in (1, 2) for i in (0, 1)) + "".join(f" (a .1 .1 .1 .1 {'.1 ' * k}.0 .name)" for k in (1, 2)) + "".join(f" (a .1 .1 .1 .1 {'.1 ' * k}.0 .now)" for k in (1, 2)),
+        "(are .0 .1) (are .1 .0 .0 .1) (are .1 .1 .0 .0 .1) (are .1 .1 .1 .0 .0 .1) (are .1 .1 .1 .1 .0 .1) (are .1 .1 .1 .1 .1 .0 .0 .1) (are .1 .1 .1 .1 .1 .1 .0 .0 .1)",
+        goes(5) + ["goes-slice 𝓤 H A W 5 3 tt (plain (λ _. u64))", "goes-slice 𝓤 H A W 5 4 tt (plain (λ _. i64))"],
+        known,
+        [("load", "Load", "runs")] + [(c, con, CRATE.replace("_", "-")) for _, c, con in known[1:4]] + [("store", "Store", "runs")],
+    )
+
+
+def host_walk():
+    """A branch by how many places the run has; in each arm two local arrays, one call, to which the run is given up, and the arrays are room again."""
+    n = 24
+    length, test, first_array, first_slice = 10, 11, 6, 12
+    κs, qs = nest(["κd", "κf", "κ₀"]), nest(["qd", "qf", "q₀"])
+    env = " ∷ ".join(f"(τ {j}, {local(j)})" for j in range(n))
+
+    def arm(k):
+        size = SIZES[k]
+        w, z = ROOM[size]
+        a1, a2 = first_array + 2 * k, first_array + 2 * k + 1
+        ptr0, sl0, ptr1, sl1, ptr2, sl2 = (first_slice + 6 * k + i for i in range(6))
+        p = lambda j, h: h + 2 * (n - 1 - j) - sum(1 for x in (a1, a2) if j < x)
+        l1, l2 = local(a1), local(a2)
+        r1, r2 = f"room₁-{size}", f"room₂-{size}"
+        lends = f"(α₁ ∷ []) (α₂ ∷ []) fullShare fullShare {l1} 0 {l2} 0 (g₁ .0) (g₂ .0) {w} {z}"
+        call = f"{lends} (g₁ .1) (g₂ .1) e₁ e₂ {r1} {r2} known retailer κd κf qd qf d f κ₀ q₀ (x₀ γ₀) used"
+        back = "returns-within ! Post refl" if k == 0 else "returns !"
+        room = f"(read-below n n {size} (leb→le n {size} few))" if k == 0 else "(read-cap n n)"
+        held = list(range(6)) + [length, test, ptr0, sl0, ptr1, sl1, ptr2, sl2]
+        at = lambda j: p(j, 5)
+        return f"""{arrays(n, size, a1, a2)}-- [the amounts; their lender's part; α₂'s token; the words; their lender's part; α₁'s token; the locals; the run and its token; the inputs]
+        move ! (3 ∷ 0 ∷ 5 ∷ 2 ∷ {6 + 2 * n - 2} ∷ {6 + 2 * n - 1} ∷ 4 ∷ 1 ∷ []) $ group ! 4 $
+        -- [the words and the amounts; the run and its token; the inputs; the lender's parts; the locals]: `book_in` is called
+        {again(at, 4, ptr0, sl0, 'room₀')}{array(at, ptr1, sl1, r1)}{array(at, ptr2, sl2, r2)}move ! (1 ∷ []) $ split ! $ move ! (1 ∷ 3 ∷ []) $ join ! $ move ! (1 ∷ 0 ∷ []) $ join ! $ move ! (1 ∷ 0 ∷ []) $
+        use2 W (later (raw (C #book-in (vint w64 retailer ∷ sd ∷ sf ∷ s₀ ∷ vint w64 used ∷ sliceVal ({l1}, 0) {w} ∷ sliceVal ({l2}, 0) {z} ∷ []) (λ u. ⋆ 𝓤 H A (book-in-got 𝓤 H A W mem run C fm {call} u ∷ [])))))
+        (book-in-called 𝓤 H A W mem run C fm {call} gr gu (has-room {size} (g₁ .1) (g₂ .1) (readCount n n) e₁ e₂ {room})) $ await ! tt $
+        calls ! fm (book-in-got 𝓤 H A W mem run C fm {call}) {operands([1, 2, 3, sl0, 5, sl1, sl2], lambda j: p(j, 3))} (λ u. await ! tt $ pick ! (λ ls. learn ! (λ ms.
+        land ! (from ! (stop !)) (init ! {p(0, 3)} refl (LL.lawful R.the-type R′.the-laws 𝓤 H A W .typed reply _ (ms .0 .0) .0)) $ split ! $
+        -- the arrays are room again
+        {arrays_back(size, a1, a2, 5)}-- [the arrays' rooms; the run's last list, κ₀'s token and the inputs; the locals]
+        {back} (look ! {p(0, 3)} refl) $ {' $ '.join(f'forget ! {p(j, 3)} refl' for j in held)} $
+        {frees(n, [('cell', a2), ('cell', a1), 'rest'], (a1, a2))} $
+        by ! (exits u gr gu (ms .0 .1 .1) (ms .0 .1 .0) (ms .0 .0)){')' * 9}"""
+
+    text = f"""-- `{CRATE}::intake_book` meets its contract: a walk of its MIR, by hand, with a branch by how many places the run has. Each arm has two local arrays, which are lent at its beginning, each for a lifetime that is made for it, and are room again at its end (`runs`'s `Local.antt`).
+-- Of `book_in` the proof knows only that it meets its contract (`BookInCalled.antt`).
+-- Assumes nothing.
+{WALK_BOOK}use Rattle.runs.proofs.Laws.{{read-cap, read-below, has-room}}
+use Rattle.runs.proofs.Local.{{big-lit, local-typed, local-lent, local-lends, local-back}}
+use Rattle.runs.proofs.Turn.{{tyAt}}
+{SPECS}use {HERE}BookReply.Laws as R′
+use {HERE}BookInCalled.{{BookInContract, book-in-got, book-in-called}}
+{walk_symbols(CRATE, 'book_in')}{this_symbols(CRATE, 'intake_book')}use {HERE}intake_book.Code.Mir as parts
+
+abbrev stayed : Stays (this.ended .signature .params) (this.ended .kept)
+stayed = {nest(PARAMS)}
+
+abbrev τ : ℕ → Ty
+τ k = tyAt (code.function .locals) k
+
+{rooms()}
+
+module _ {GIVEN} (W : Given 𝓤 H A) {RUNNING}
+    (κd κf κ₀ : Lft) (qd qf q₀ : Share) (retailer : ℕ) (d f : RefT (List ℕ)) (b₀ o₀ : ℕ) (γ₀ : GName) (ys : List Entry) (used : ℕ) where
+{RUN}
+  abbrev reply : BookReply
+  reply = bookReply (bookResult i)
+
+{INPUTS}
+  abbrev Arg : Type 0
+  Arg = {nest_types(['ℕ', 'RefT (List ℕ)', 'RefT (List ℕ)', 'RefT (List Entry)', 'ℕ'])}
+
+  abbrev a : Arg
+  a = {nest(['retailer', 'd', 'f', 'x₀ γ₀', 'used'])}
+
+  abbrev at : {nest_types(['List Val'] * 5)}
+  at = {nest(['vint w64 retailer ∷ []', 'sd ∷ []', 'sf ∷ []', 's₀ ∷ []', 'vint w64 used ∷ []'])}
+
+  abbrev vs : List Val
+  vs = vint w64 retailer ∷ sd ∷ sf ∷ s₀ ∷ vint w64 used ∷ []
+
+  abbrev Post : Val → SProp 𝓤
+  Post = walkOf 𝓤 H A this.ended stayed (this.clauses 𝓤 H A mem run) .post (({κs}, {qs}, tt, a, at), tt)
+
+  exits : (w : Val) → retailer < 2 ^ 64 → used < 2 ^ 64 → length (runAfter i) ≡ n → HostBooked i reply (runAfter i) → Is R.the-row reply (w ∷ [])
+      → ent 𝓤 (⋆ 𝓤 H A ((‵ (finally T.the-row γ₀ (runAfter i)) ⊛ ‵ (flft κ₀ q₀) ⊛ inputs) ∷ [])) (Post w)
+  exits w gr gu e₀ is g =
+      qed W ((‵ (finally T.the-row γ₀ (runAfter i)) ⊛ ‵ (flft κ₀ q₀) ⊛ inputs) ∷ []) ∵
+      suffices ! _ (ends-at 𝓤 H A this.ended stayed (this.clauses 𝓤 H A mem run) W (({κs}, {qs}, tt, a, at), tt) w reply {nest(['tt', 'tt', 'tt', 'runAfter i', 'tt'])} {nest(['tt', 'tt', 'tt', 'e₀', 'tt'])}) $
+      says ! is $ {'split ! $ move ! (1 ∷ []) $ ' * 4}split ! $
+      -- [κd's token; κf's token; the file; the distributors; κ₀'s token; the run's last list]
+      nothing ! $ move ! (5 ∷ 0 ∷ []) $ join ! $ move ! (2 ∷ 0 ∷ []) $ join ! $ move ! (1 ∷ 0 ∷ []) $ join ! $ frame ! $
+      -- [the file; the distributors; the run's last list]
+      nothing ! $ {owned('used')}move ! (3 ∷ 0 ∷ []) $ fjoin ! $ move ! (1 ∷ 0 ∷ []) $ fjoin ! $ move ! (1 ∷ 0 ∷ []) $ fjoin ! $ {owned('retailer')}frame ! $
+      owned ! R.the-row (Is R.the-row) (LL.makes R.the-type R′.the-plain 𝓤 H A) reply _ g $ done !
+
+  module _ (C : Calls 𝓤 H) (Λ : Loops 𝓤 H) (fm : FmC 𝓤 H (W .laws) C) (known : Triple 𝓤 (C #book-in) (BookInContract 𝓤 H A mem run))
+      (gr : retailer < 2 ^ 64) (room-d : Room u8 (length (d .now))) (room-f : Room u8 (length (f .now))) (room₀ : Room T.the-row n) (gu : used < 2 ^ 64) where
+    walk : ent 𝓤 (onEntry 𝓤 H A this.signature {κs} {qs} a at) (WpFn 𝓤 H C Λ code.function vs Post)
+    walk =
+        qed W ((‵ (flft κd qd) ⊛ ‵ (flft κf qf) ⊛ ‵ (flft κ₀ q₀) ⊛ ‵ ftrue) ∷ ‵ (owns (u64 ∷ ShrSlice (named 0) κd u8 ∷ ShrSlice (named 1) κf u8 ∷ MutSlice (named 2) κ₀ T.the-row ∷ usize ∷ []) a at) ∷ []) ∵
+        split ! $ move ! (1 ∷ []) $ split ! $ move ! (1 ∷ []) $ split ! $ move ! (4 ∷ []) $ fsplit ! $ {'move ! (1 ∷ []) $ fsplit ! $ ' * 4}
+        -- [used; true; the run; the file; the distributors; the retailer; κ₀'s token; true; κf's token; κd's token]
+        keep ! (4 ∷ 3 ∷ 9 ∷ 8 ∷ 2 ∷ 6 ∷ []) $ group ! 4 $ move ! (1 ∷ 2 ∷ []) $ join ! $ enter ! C Λ code.function vs _ $
+        {''.join(f'alloc1 ! (λ {local(j)}. ' for j in range(n))}alloc0 ! $ params1 ! $
+        pass1 ! (init ! {2 * (n - 2)} refl (tt, record {{ fits = gr }})) $ pass1 ! (init ! {2 * (n - 3)} refl (tt, (tt, (record {{ fits = room-d .0 }}, tt)))) $ pass1 ! (init ! {2 * (n - 4)} refl (tt, (tt, (record {{ fits = room-f .0 }}, tt)))) $ pass1 ! (init ! {2 * (n - 5)} refl (tt, (tt, (record {{ fits = room₀ .0 }}, tt)))) $ pass1 ! (init ! {2 * (n - 6)} refl (tt, record {{ fits = gu }})) $ pass0 ! $
+        assigns ! (of-opd ! (loads ! (from ! (fld ! refl (stop !))) (look-in ! {2 * (n - 5)} (sub ! 1 refl (whole !))))) (from ! (stop !)) (init ! {2 * (n - 1 - length)} refl (tt, record {{ fits = room₀ .0 }})) $
+        assigns ! (bin ! (loads ! (from ! (stop !)) (look ! {2 * (n - 1 - length)} refl)) (big-lit ! (record {{ fits = lit< tt }})) tt) (from ! (stop !)) (init ! {2 * (n - 1 - test)} refl (tt, tt)) $
+        first ! $ branches ! (loads ! (from ! (stop !)) (look ! {2 * (n - 1 - test)} refl))
+        -- a small ledger
+        (λ few. {arm(0)})
+        -- a large one
+        (λ many. skips ! $ exec ! C Λ ({env} ∷ []) parts.t-4 (atRet ({env} ∷ []) Post) $ {arm(1)}){')' * n}
+"""
+    return text + closing(
+        "intake_book", VALS, TELLS, "via 𝓤 _ (fst∗ 𝓤 _ (emp 𝓤))",
+        "(κs .0) (κs .1 .0) (κs .1 .1 .0) (qs .0) (qs .1 .0) (qs .1 .1 .0) (a .0) (a .1 .0) (a .1 .1 .0) (a .1 .1 .1 .0 .ptr .0) (a .1 .1 .1 .0 .ptr .1) (a .1 .1 .1 .0 .name) (a .1 .1 .1 .0 .now) (a .1 .1 .1 .1 .0)",
+        "(are .0 .1) (are .1 .0 .0 .1) (are .1 .1 .0 .0 .1) (are .1 .1 .1 .0 .0 .1) (are .1 .1 .1 .1 .0 .1)",
+        goes(3), [("known", "book-in", "BookInContract")], [("book-in", "BookInContract", CRATE.replace("_", "-"))],
+    )
+
+
+write(CRATE, "BookReplyCalled.antt", core_called())
+write(CRATE, "WrittenCalled.antt", written_called())
+write(CRATE, "BookInCalled.antt", inner_called())
+write(CRATE, os.path.join("book_in", "Proof.antt"), inner_walk())
+write(CRATE, os.path.join("intake_book", "Proof.antt"), host_walk())
