@@ -1,5 +1,5 @@
 """Writes the proofs of the functions of crate lent_booking that book into a lent run: the lemmas of the covered callees, the walk of the function with lent words,
-the lemma of that function as a callee, and the walk of the function that a host calls. tools/walks.sh runs it."""
+the lemma of that function as a callee, and the walk of the function of crate intake that a host calls. tools/walks.sh runs it."""
 
 from walk_text import *
 
@@ -11,6 +11,8 @@ use Rattle.{CRATE}.specs.declared.BookReply.{{BookReply}}
 use Rattle.{CRATE}.specs.Replies.{{bookReply, HostBooked, writtenTo, writtenFrom}}
 use {HERE}BookReply as R
 """
+# the same, from the crate of the function that a host calls
+HOST_SPECS = SPECS.replace(f"{CRATE}·specs.specs.", f"{CRATE}.specs.").replace(f"{CRATE}·proofs.proofs.", f"{CRATE}.proofs.")
 NUMBER = {"retailer": ("u64", "gr"), "n": ("usize", "gn"), "used": ("usize", "gu"), "to": ("usize", "gt")}
 
 
@@ -428,7 +430,7 @@ use Rattle.runs.proofs.store.Met as store-thm
 use {HERE}Laws.{{to-small, from-small, added-fits, may-read, may-store, wrapped}}
 use {HERE}BookReplyCalled.{{BookReplyContract, book-reply-got, book-reply-called}}
 use {HERE}WrittenCalled.{{WrittenToContract, WrittenFromContract, written-to-got, written-to-called, written-from-got, written-from-called}}
-{walk_symbols(CRATE, 'book_reply')}{walk_symbols(CRATE, 'written_to')}{walk_symbols(CRATE, 'written_from')}{this_symbols(CRATE, 'book_in')}
+{walk_symbols(HERE[:-1], 'book_reply')}{walk_symbols(HERE[:-1], 'written_to')}{walk_symbols(HERE[:-1], 'written_from')}{this_symbols(CRATE, 'book_in')}
 abbrev stayed : Stays (this.ended .signature .params) (this.ended .kept)
 stayed = {nest(PARAMS + ['stay-slice (3 ∷ []) tt (plain (λ _. u64))', 'stay-slice (4 ∷ []) tt (plain (λ _. i64))'])}
 
@@ -598,15 +600,15 @@ def host_walk():
         {frees(n, [('cell', a2), ('cell', a1), 'rest'], (a1, a2))} $
         by ! (exits u gr gu (ms .0 .1 .1) (ms .0 .1 .0) (ms .0 .0)){')' * 9}"""
 
-    text = f"""-- `{CRATE}::intake_book` meets its contract: a walk of its MIR, by hand, with a branch by how many places the run has. Each arm has two local arrays, which are lent at its beginning, each for a lifetime that is made for it, and are room again at its end (`runs`'s `Local.antt`).
--- Of `book_in` the proof knows only that it meets its contract (`BookInCalled.antt`).
+    text = f"""-- `{HOST}::intake_book` meets its contract: a walk of its MIR, by hand, with a branch by how many places the run has. Each arm has two local arrays, which are lent at its beginning, each for a lifetime that is made for it, and are room again at its end (`runs`'s `Local.antt`).
+-- Of `book_in` the proof knows only that it meets its contract (`{CRATE}`'s `BookInCalled.antt`).
 -- Assumes nothing.
 {WALK_BOOK}use Rattle.runs.proofs.Laws.{{read-cap, read-below, has-room}}
 use Rattle.runs.proofs.Local.{{big-lit, local-typed, local-lent, local-lends, local-back}}
 use Rattle.runs.proofs.Turn.{{tyAt}}
-{SPECS}use {HERE}BookReply.Laws as R′
-use {HERE}BookInCalled.{{BookInContract, book-in-got, book-in-called}}
-{walk_symbols(CRATE, 'book_in')}{this_symbols(CRATE, 'intake_book')}use {HERE}intake_book.Code.Mir as parts
+{HOST_SPECS}use Rattle.{CRATE}.proofs.BookReply.Laws as R′
+use Rattle.{CRATE}.proofs.BookInCalled.{{BookInContract, book-in-got, book-in-called}}
+{walk_symbols(f'Rattle.{CRATE}.proofs', 'book_in')}{this_symbols(HOST, 'intake_book')}use Rattle.{HOST}.proofs.intake_book.Code.Mir as parts
 
 abbrev stayed : Stays (this.ended .signature .params) (this.ended .kept)
 stayed = {nest(PARAMS)}
@@ -680,4 +682,4 @@ write(CRATE, "BookReplyCalled.antt", core_called())
 write(CRATE, "WrittenCalled.antt", written_called())
 write(CRATE, "BookInCalled.antt", inner_called())
 write(CRATE, os.path.join("book_in", "Proof.antt"), inner_walk())
-write(CRATE, os.path.join("intake_book", "Proof.antt"), host_walk())
+write(HOST, os.path.join("intake_book", "Proof.antt"), host_walk())

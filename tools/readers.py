@@ -1,5 +1,5 @@
 """Writes the proofs of the functions of crate lent_ledger that read a lent run: for each operation the lemma of its covered callee, the walk of the function
-with lent words, the lemma of that function as a callee, and the walk of the function that a host calls. tools/walks.sh runs it."""
+with lent words, the lemma of that function as a callee, and the walk of the function of crate intake that a host calls. tools/walks.sh runs it."""
 
 from walk_text import *
 
@@ -18,6 +18,8 @@ use Rattle.{CRATE}.specs.declared.{reply}.{{{reply}}}
 use Rattle.{CRATE}.specs.Replies.{{{made}}}
 use Rattle.{CRATE}.proofs.{reply} as R
 """
+        # the same, from the crate of the functions that a host calls
+        self.host_specs = self.specs.replace(f"{CRATE}·specs.specs.", f"{CRATE}.specs.").replace(f"{CRATE}·proofs.proofs.", f"{CRATE}.proofs.")
 
     def kind(self, x):
         return "usize" if x in ("n", "used") else "u64"
@@ -245,7 +247,7 @@ use Rattle.runs.proofs.load.Symbol as load-def
 use Rattle.runs.proofs.load.Symbol.{{name as #load}}
 use Rattle.runs.proofs.load.Met as load-thm
 {o.specs}use Rattle.{CRATE}.proofs.{o.reply}.Laws as R′
-{walk_symbols(CRATE, o.callee)}use Rattle.{CRATE}.proofs.Laws.{{{o.law}}}
+{walk_symbols(f'Rattle.{CRATE}.proofs', o.callee)}use Rattle.{CRATE}.proofs.Laws.{{{o.law}}}
 use Rattle.{CRATE}.proofs.{camel(o.callee)}Called.{{{con}, {d}-got, {d}-called}}
 {this_symbols(CRATE, f)}
 abbrev stayed : Stays (this.ended .signature .params) (this.ended .kept)
@@ -406,15 +408,15 @@ def host_walk(o):
         by ! (exits u {gs} (ms .0)){')' * 9}"""
 
     env = " ∷ ".join(f"(τ {j}, {local(j)})" for j in range(n))
-    text = f"""-- `{CRATE}::{f}` meets its contract: a walk of its MIR, by hand, with a branch by how many entries are in use. Each arm has two local arrays, which are lent at its beginning, each for a lifetime that is made for it, and are room again at its end (`runs`'s `Local.antt`).
--- Of `{o.inner}` the proof knows only that it meets its contract (`{camel(o.inner)}Called.antt`).
+    text = f"""-- `{HOST}::{f}` meets its contract: a walk of its MIR, by hand, with a branch by how many entries are in use. Each arm has two local arrays, which are lent at its beginning, each for a lifetime that is made for it, and are room again at its end (`runs`'s `Local.antt`).
+-- Of `{o.inner}` the proof knows only that it meets its contract (`{CRATE}`'s `{camel(o.inner)}Called.antt`).
 -- Assumes nothing.
 {WALK}use Rattle.runs.proofs.Laws.{{read-cap, read-below, has-room}}
 use Rattle.runs.proofs.Local.{{big-lit, local-typed, local-lent, local-lends, local-back}}
 use Rattle.runs.proofs.Turn.{{tyAt}}
-{o.specs}use Rattle.{CRATE}.proofs.{o.reply}.Laws as R′
-{walk_symbols(CRATE, o.inner)}use Rattle.{CRATE}.proofs.{camel(o.inner)}Called.{{{con}, {d}-got, {d}-called}}
-{this_symbols(CRATE, f)}use Rattle.{CRATE}.proofs.{f}.Code.Mir as parts
+{o.host_specs}use Rattle.{CRATE}.proofs.{o.reply}.Laws as R′
+{walk_symbols(f'Rattle.{CRATE}.proofs', o.inner)}use Rattle.{CRATE}.proofs.{camel(o.inner)}Called.{{{con}, {d}-got, {d}-called}}
+{this_symbols(HOST, f)}use Rattle.{HOST}.proofs.{f}.Code.Mir as parts
 
 abbrev stayed : Stays (this.ended .signature .params) (this.ended .kept)
 stayed = {nest(['stay-none-slice (0 ∷ []) tt (plain (λ _. T.the-row)) yes'] + [f'stay-none (λ _. {o.kind(x)}) yes' for x in ps])}
@@ -496,4 +498,4 @@ for o in (Operation("totals", "TotalsReply", "totalsResult", "totals-loaded", []
     write(CRATE, camel(o.callee) + "Called.antt", core_called(o))
     write(CRATE, camel(o.inner) + "Called.antt", inner_called(o))
     write(CRATE, os.path.join(o.inner, "Proof.antt"), inner_walk(o))
-    write(CRATE, os.path.join(o.host, "Proof.antt"), host_walk(o))
+    write(HOST, os.path.join(o.host, "Proof.antt"), host_walk(o))

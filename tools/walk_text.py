@@ -104,6 +104,9 @@ use Rattle.soundness.specs.Room.{readCount}
 """
 
 
+HOST = "intake"
+
+
 def symbols(crate, f):
     d = f.replace("_", "-")
     return f"use Rattle.{crate}.proofs.{f} as {d}\nuse Rattle.{crate}.proofs.{f}.Symbol.{{name as #{d}}}\n"
@@ -113,11 +116,12 @@ def local(j):
     return "l" + sub(j)
 
 
-def walk_symbols(crate, f):
+def walk_symbols(proofs, f):
+    """Of a callee, whose crate's proofs have this name where it is called."""
     d = f.replace("_", "-")
-    return f"""use Rattle.{crate}.proofs.{f}.Symbol as {d}-def
-use Rattle.{crate}.proofs.{f}.Symbol.{{name as #{d}}}
-use Rattle.{crate}.proofs.{f}.Met as {d}-thm
+    return f"""use {proofs}.{f}.Symbol as {d}-def
+use {proofs}.{f}.Symbol.{{name as #{d}}}
+use {proofs}.{f}.Met as {d}-thm
 """
 
 

@@ -1,12 +1,20 @@
-// What the host program calls, as host/intake.h declares it. An answer is the refusal's number times 2 ^ 32, and in the
-// lower 32 bits the line or the value asked for.
+// What the host program calls, as host/intake.h declares it. The answer of Check, of a date and of a code is the refusal's number times 2 ^ 32, and in the
+// lower 32 bits the line or the value asked for; that of Book, Totals and Find is a struct of document 01's number and values.
 ghost use mathlib.Core.Path.{_≡_};
 ghost use Rattle.calendar.specs.Calendar.{dayOf};
 ghost use Rattle.codes.specs.Codes.{codeOf};
 ghost use Rattle.refusals.specs.Check.{checkOf};
+ghost use Rattle.ledger.specs.Ledger.{totalsResult, findResult};
+ghost use Rattle.book.specs.Book.{inputOf};
+ghost use Rattle.lent_ledger.specs.Replies.{totalsReply, findReply};
+ghost use Rattle.lent_booking.specs.Replies.{HostBooked};
 ghost use Rattle.intake.specs.Answers.{packed, checkAnswer, dayAnswer, codeAnswer};
 use calendar::Day;
 use codes::RejectionCode;
+use entries::Entry;
+use lent_booking::BookReply;
+use lent_ledger::FindReply;
+use lent_ledger::TotalsReply;
 
 // Check: the first refusal of a file, as its number and line; 0 and 0 when all tests pass.
 #[no_mangle]
@@ -37,4 +45,72 @@ pub extern "C" fn intake_code(test: u64) -> u64
         RejectionCode::Code(code) => code,
         RejectionCode::NotATest => 107 * 4294967296,
     }
+}
+
+// Book: refusals in document 01's order, which leave the run as it was lent; else the entries. The used count afterwards is the one before and the entries added. A
+// small run has words of its own, here as below: setting those of 8,192 entries to 0 takes longer than booking a few records.
+#[no_mangle]
+pub extern "C" fn intake_book(
+    retailer: u64,
+    distributors: &[u8],
+    file: &[u8],
+    run: &mut [Entry],
+    used: usize,
+) -> BookReply
+    ensures { λ r. ⌜ HostBooked (inputOf retailer (now (distributors .entry)) (now (file .entry)) (now (run .entry)) used) r (now (run .exit)) ⌝ }
+{
+    if run.len() <= 1024 {
+        let mut few_words = [0u64; 9216];
+        let mut few_amounts = [0i64; 2048];
+        return lent_booking::book_in(
+            retailer,
+            distributors,
+            file,
+            run,
+            used,
+            &mut few_words,
+            &mut few_amounts,
+        );
+    }
+    let mut words = [0u64; 73728];
+    let mut amounts = [0i64; 16384];
+    lent_booking::book_in(
+        retailer,
+        distributors,
+        file,
+        run,
+        used,
+        &mut words,
+        &mut amounts,
+    )
+}
+
+// Totals: for live and for held entries the charge, the usage in KWH and the usage in GJ.
+#[no_mangle]
+pub extern "C" fn intake_totals(run: &[Entry], used: usize) -> TotalsReply
+    ensures { λ r. ⌜ r ≡ totalsReply (totalsResult (now (run .entry)) used) ⌝ }
+{
+    if used <= 1024 {
+        let mut few_words = [0u64; 9216];
+        let mut few_amounts = [0i64; 2048];
+        return lent_ledger::totals_in(run, used, &mut few_words, &mut few_amounts);
+    }
+    let mut words = [0u64; 73728];
+    let mut amounts = [0i64; 16384];
+    lent_ledger::totals_in(run, used, &mut words, &mut amounts)
+}
+
+// Find: the place, from 0, of the live period of a site that has a day.
+#[no_mangle]
+pub extern "C" fn intake_find(run: &[Entry], used: usize, site: u64, day: u64) -> FindReply
+    ensures { λ r. ⌜ r ≡ findReply (findResult (now (run .entry)) used site day) ⌝ }
+{
+    if used <= 1024 {
+        let mut few_words = [0u64; 9216];
+        let mut few_amounts = [0i64; 2048];
+        return lent_ledger::find_in(run, used, site, day, &mut few_words, &mut few_amounts);
+    }
+    let mut words = [0u64; 73728];
+    let mut amounts = [0i64; 16384];
+    lent_ledger::find_in(run, used, site, day, &mut words, &mut amounts)
 }

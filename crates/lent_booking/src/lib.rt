@@ -1,4 +1,4 @@
-// Book on a lent run of entries, of any length, as a host calls it: the used entries are copied into words, `book` works on these, and what it changed or added is copied back.
+// Book on a lent run of entries, of any length: the used entries are copied into words, `book` works on these, and what it changed or added is copied back.
 ghost use mathlib.Core.Path.{_≡_};
 ghost use mathlib.Core.Bool.{cond};
 ghost use Prim.Native.Nat.{_+_, _≤_};
@@ -87,7 +87,7 @@ fn written_from(words: &[u64], amounts: &[i64], used: usize, to: usize) -> usize
 }
 
 // Book on a run, with lent words.
-fn book_in(
+pub fn book_in(
     retailer: u64,
     distributors: &[u8],
     file: &[u8],
@@ -106,33 +106,4 @@ fn book_in(
     let from = written_from(words, amounts, used, to);
     runs::store(words, amounts, from, to, run);
     reply
-}
-
-// Book: refusals in document 01's order, which leave the run as it was lent; else the entries. The used count afterwards is the one before and the entries added.
-#[no_mangle]
-pub extern "C" fn intake_book(
-    retailer: u64,
-    distributors: &[u8],
-    file: &[u8],
-    run: &mut [Entry],
-    used: usize,
-) -> BookReply
-    ensures { λ r. ⌜ HostBooked (inputOf retailer (now (distributors .entry)) (now (file .entry)) (now (run .entry)) used) r (now (run .exit)) ⌝ }
-{
-    if run.len() <= 1024 {
-        let mut few_words = [0u64; 9216];
-        let mut few_amounts = [0i64; 2048];
-        return book_in(
-            retailer,
-            distributors,
-            file,
-            run,
-            used,
-            &mut few_words,
-            &mut few_amounts,
-        );
-    }
-    let mut words = [0u64; 73728];
-    let mut amounts = [0i64; 16384];
-    book_in(retailer, distributors, file, run, used, &mut words, &mut amounts)
 }

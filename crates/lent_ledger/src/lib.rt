@@ -1,4 +1,4 @@
-// Totals and Find on a lent run of entries, of any length, as a host calls them: the used entries are copied into words, and the ledger's functions work on these.
+// Totals and Find on a lent run of entries, of any length: the used entries are copied into words, and the ledger's functions work on these.
 ghost use mathlib.Core.Path.{_≡_};
 ghost use lib.ListN.{length};
 ghost use Rattle.entries.specs.Words.{entriesOf};
@@ -115,7 +115,7 @@ fn find_reply(
 }
 
 // Totals of a run, with lent words.
-fn totals_in(run: &[Entry], used: usize, words: &mut [u64], amounts: &mut [i64]) -> TotalsReply
+pub fn totals_in(run: &[Entry], used: usize, words: &mut [u64], amounts: &mut [i64]) -> TotalsReply
     requires { ⌜ LedgerRoom (length (now run)) used (now words) (now amounts) ⌝ }
     ensures { λ r. ⌜ r ≡ totalsReply (totalsResult (now (run .entry)) used) ⌝ }
 {
@@ -124,7 +124,7 @@ fn totals_in(run: &[Entry], used: usize, words: &mut [u64], amounts: &mut [i64])
 }
 
 // Find in a run, with lent words.
-fn find_in(
+pub fn find_in(
     run: &[Entry],
     used: usize,
     site: u64,
@@ -137,34 +137,4 @@ fn find_in(
 {
     runs::load(run, used, words, amounts);
     find_reply(words, amounts, run.len(), used, site, day)
-}
-
-// Totals: for live and for held entries the charge, the usage in KWH and the usage in GJ. A small ledger has words of its own: setting those of 8,192 entries to 0 would take longer than all the rest.
-#[no_mangle]
-pub extern "C" fn intake_totals(run: &[Entry], used: usize) -> TotalsReply
-    ensures { λ r. ⌜ r ≡ totalsReply (totalsResult (now (run .entry)) used) ⌝ }
-{
-    if used <= 1024 {
-        let mut few_words = [0u64; 9216];
-        let mut few_amounts = [0i64; 2048];
-        return totals_in(run, used, &mut few_words, &mut few_amounts);
-    }
-    let mut words = [0u64; 73728];
-    let mut amounts = [0i64; 16384];
-    totals_in(run, used, &mut words, &mut amounts)
-}
-
-// Find: the place, from 0, of the live period of a site that has a day.
-#[no_mangle]
-pub extern "C" fn intake_find(run: &[Entry], used: usize, site: u64, day: u64) -> FindReply
-    ensures { λ r. ⌜ r ≡ findReply (findResult (now (run .entry)) used site day) ⌝ }
-{
-    if used <= 1024 {
-        let mut few_words = [0u64; 9216];
-        let mut few_amounts = [0i64; 2048];
-        return find_in(run, used, site, day, &mut few_words, &mut few_amounts);
-    }
-    let mut words = [0u64; 73728];
-    let mut amounts = [0i64; 16384];
-    find_in(run, used, site, day, &mut words, &mut amounts)
 }

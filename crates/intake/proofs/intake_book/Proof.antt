@@ -1,5 +1,5 @@
--- `lent_booking::intake_book` meets its contract: a walk of its MIR, by hand, with a branch by how many places the run has. Each arm has two local arrays, which are lent at its beginning, each for a lifetime that is made for it, and are room again at its end (`runs`'s `Local.antt`).
--- Of `book_in` the proof knows only that it meets its contract (`BookInCalled.antt`).
+-- `intake::intake_book` meets its contract: a walk of its MIR, by hand, with a branch by how many places the run has. Each arm has two local arrays, which are lent at its beginning, each for a lifetime that is made for it, and are room again at its end (`runs`'s `Local.antt`).
+-- Of `book_in` the proof knows only that it meets its contract (`lent_booking`'s `BookInCalled.antt`).
 -- Assumes nothing.
 use mathlib.Core.Path.{_≡_, refl, sym, ap, subst, _∙_}
 use Prim.Native.Nat.{ℕ, _≤_, _<_, _^_}
@@ -50,19 +50,19 @@ use Rattle.runs.proofs.Local.{big-lit, local-typed, local-lent, local-lends, lo
 use Rattle.runs.proofs.Turn.{tyAt}
 use Rattle.booking.specs.Booking.{Input, bookResult, runAfter}
 use Rattle.book.specs.Book.{inputOf}
 use Rattle.lent_booking.specs.declared.BookReply.{BookReply}
 use Rattle.lent_booking.specs.Replies.{bookReply, HostBooked, writtenTo, writtenFrom}
 use Rattle.lent_booking.proofs.BookReply as R
 use Rattle.lent_booking.proofs.BookReply.Laws as R′
 use Rattle.lent_booking.proofs.BookInCalled.{BookInContract, book-in-got, book-in-called}
 use Rattle.lent_booking.proofs.book_in.Symbol as book-in-def
 use Rattle.lent_booking.proofs.book_in.Symbol.{name as #book-in}
 use Rattle.lent_booking.proofs.book_in.Met as book-in-thm
-use Rattle.lent_booking.proofs.intake_book.Key.{name as #this}
-use Rattle.lent_booking.proofs.intake_book as this
-use Rattle.lent_booking.proofs.intake_book.Statement as stated
-use Rattle.lent_booking.proofs.intake_book.Code as code
-use Rattle.lent_booking.proofs.intake_book.Code.Mir as parts
+use Rattle.intake.proofs.intake_book.Key.{name as #this}
+use Rattle.intake.proofs.intake_book as this
+use Rattle.intake.proofs.intake_book.Statement as stated
+use Rattle.intake.proofs.intake_book.Code as code
+use Rattle.intake.proofs.intake_book.Code.Mir as parts
 
 abbrev stayed : Stays (this.ended .signature .params) (this.ended .kept)
 stayed = (stay-none (λ _. u64) yes, (stay-none-slice (0 ∷ []) tt (plain (λ _. u8)) yes, (stay-none-slice (1 ∷ []) tt (plain (λ _. u8)) yes, (gave-slice (2 ∷ []) tt (plain (λ _. T.the-row)), (stay-none (λ _. usize) yes, tt)))))

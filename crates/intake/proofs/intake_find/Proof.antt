@@ -1,5 +1,5 @@
--- `lent_ledger::intake_find` meets its contract: a walk of its MIR, by hand, with a branch by how many entries are in use. Each arm has two local arrays, which are lent at its beginning, each for a lifetime that is made for it, and are room again at its end (`runs`'s `Local.antt`).
--- Of `find_in` the proof knows only that it meets its contract (`FindInCalled.antt`).
+-- `intake::intake_find` meets its contract: a walk of its MIR, by hand, with a branch by how many entries are in use. Each arm has two local arrays, which are lent at its beginning, each for a lifetime that is made for it, and are room again at its end (`runs`'s `Local.antt`).
+-- Of `find_in` the proof knows only that it meets its contract (`lent_ledger`'s `FindInCalled.antt`).
 -- Assumes nothing.
 use mathlib.Core.Path.{_≡_, refl, sym, ap, subst, _∙_}
 use Prim.Native.Nat.{ℕ, _≤_, _<_, _^_}
@@ -49,19 +49,19 @@ use Rattle.runs.proofs.Laws.{read-cap, read-below, has-room}
 use Rattle.runs.proofs.Local.{big-lit, local-typed, local-lent, local-lends, local-back}
 use Rattle.runs.proofs.Turn.{tyAt}
 use Rattle.ledger.specs.Ledger.{findResult}
 use Rattle.lent_ledger.specs.declared.FindReply.{FindReply}
 use Rattle.lent_ledger.specs.Replies.{findReply}
 use Rattle.lent_ledger.proofs.FindReply as R
 use Rattle.lent_ledger.proofs.FindReply.Laws as R′
 use Rattle.lent_ledger.proofs.find_in.Symbol as find-in-def
 use Rattle.lent_ledger.proofs.find_in.Symbol.{name as #find-in}
 use Rattle.lent_ledger.proofs.find_in.Met as find-in-thm
 use Rattle.lent_ledger.proofs.FindInCalled.{FindInContract, find-in-got, find-in-called}
-use Rattle.lent_ledger.proofs.intake_find.Key.{name as #this}
-use Rattle.lent_ledger.proofs.intake_find as this
-use Rattle.lent_ledger.proofs.intake_find.Statement as stated
-use Rattle.lent_ledger.proofs.intake_find.Code as code
-use Rattle.lent_ledger.proofs.intake_find.Code.Mir as parts
+use Rattle.intake.proofs.intake_find.Key.{name as #this}
+use Rattle.intake.proofs.intake_find as this
+use Rattle.intake.proofs.intake_find.Statement as stated
+use Rattle.intake.proofs.intake_find.Code as code
+use Rattle.intake.proofs.intake_find.Code.Mir as parts
 
 abbrev stayed : Stays (this.ended .signature .params) (this.ended .kept)
 stayed = (stay-none-slice (0 ∷ []) tt (plain (λ _. T.the-row)) yes, (stay-none (λ _. usize) yes, (stay-none (λ _. u64) yes, (stay-none (λ _. u64) yes, tt))))

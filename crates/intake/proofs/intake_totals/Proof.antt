@@ -1,5 +1,5 @@
--- `lent_ledger::intake_totals` meets its contract: a walk of its MIR, by hand, with a branch by how many entries are in use. Each arm has two local arrays, which are lent at its beginning, each for a lifetime that is made for it, and are room again at its end (`runs`'s `Local.antt`).
--- Of `totals_in` the proof knows only that it meets its contract (`TotalsInCalled.antt`).
+-- `intake::intake_totals` meets its contract: a walk of its MIR, by hand, with a branch by how many entries are in use. Each arm has two local arrays, which are lent at its beginning, each for a lifetime that is made for it, and are room again at its end (`runs`'s `Local.antt`).
+-- Of `totals_in` the proof knows only that it meets its contract (`lent_ledger`'s `TotalsInCalled.antt`).
 -- Assumes nothing.
 use mathlib.Core.Path.{_≡_, refl, sym, ap, subst, _∙_}
 use Prim.Native.Nat.{ℕ, _≤_, _<_, _^_}
@@ -49,19 +49,19 @@ use Rattle.runs.proofs.Laws.{read-cap, read-below, has-room}
 use Rattle.runs.proofs.Local.{big-lit, local-typed, local-lent, local-lends, local-back}
 use Rattle.runs.proofs.Turn.{tyAt}
 use Rattle.ledger.specs.Ledger.{totalsResult}
 use Rattle.lent_ledger.specs.declared.TotalsReply.{TotalsReply}
 use Rattle.lent_ledger.specs.Replies.{totalsReply}
 use Rattle.lent_ledger.proofs.TotalsReply as R
 use Rattle.lent_ledger.proofs.TotalsReply.Laws as R′
 use Rattle.lent_ledger.proofs.totals_in.Symbol as totals-in-def
 use Rattle.lent_ledger.proofs.totals_in.Symbol.{name as #totals-in}
 use Rattle.lent_ledger.proofs.totals_in.Met as totals-in-thm
 use Rattle.lent_ledger.proofs.TotalsInCalled.{TotalsInContract, totals-in-got, totals-in-called}
-use Rattle.lent_ledger.proofs.intake_totals.Key.{name as #this}
-use Rattle.lent_ledger.proofs.intake_totals as this
-use Rattle.lent_ledger.proofs.intake_totals.Statement as stated
-use Rattle.lent_ledger.proofs.intake_totals.Code as code
-use Rattle.lent_ledger.proofs.intake_totals.Code.Mir as parts
+use Rattle.intake.proofs.intake_totals.Key.{name as #this}
+use Rattle.intake.proofs.intake_totals as this
+use Rattle.intake.proofs.intake_totals.Statement as stated
+use Rattle.intake.proofs.intake_totals.Code as code
+use Rattle.intake.proofs.intake_totals.Code.Mir as parts
 
 abbrev stayed : Stays (this.ended .signature .params) (this.ended .kept)
 stayed = (stay-none-slice (0 ∷ []) tt (plain (λ _. T.the-row)) yes, (stay-none (λ _. usize) yes, tt))
