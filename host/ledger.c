@@ -1,5 +1,5 @@
 /* Keeps a ledger in memory, books the files named on the command line into it, one after the other, and prints the answers,
- * the totals and what is asked for by --find. */
+ * the totals and what is asked for by --entries and --find. */
 #include "intake.h"
 
 #include <errno.h>
@@ -29,6 +29,7 @@ struct query {
 /* What the command line asks for. */
 struct request {
     bool help;
+    bool entries;
     struct settings settings;
     uint64_t places;
     uint64_t used;
@@ -62,12 +63,13 @@ static void print_help(void) {
           "Books tariff bill files into a ledger in memory, in the order in which they are named. Prints a line for each:\n"
           "  accepted ADDED HELD        booked: how many entries were added, and how many of them are held\n"
           "  rejected NUMBER CODE LINE  refused: docs/REFUSALS.md has the numbers\n"
-          "then the totals of the live entries and of the held ones, and then what was asked for by --find.\n"
+          "then the totals of the live entries and of the held ones, and then what --entries and --find ask for.\n"
           "\n"
           "  --retailer N               our retailer number (999999999)\n"
           "  --distributors DDDD...     the distributor IDs whose files are taken, four digits each (0040)\n"
           "  --places N                 how many entries the ledger has room for (8192)\n"
           "  --used N                   the used count at the start, over entries of zeros, which are not sound (0)\n"
+          "  --entries                  each used entry: its place and its fields, as host/intake.h counts them\n"
           "  --find SITE DATE           the live period of a site that has a day, YYYYMMDD; may be given several times\n"
           "  --help                     this text\n"
           "\n"
@@ -125,6 +127,10 @@ static bool take_query(struct words *words, const char *option, struct request *
 static bool take_option(struct words *words, const char *option, struct request *request) {
     if (strcmp(option, "--help") == 0) {
         request->help = true;
+        return true;
+    }
+    if (strcmp(option, "--entries") == 0) {
+        request->entries = true;
         return true;
     }
     if (strcmp(option, "--retailer") == 0) {
@@ -222,6 +228,12 @@ static unsigned date_of(uint64_t day) {
     return year * 10000 + month * 100 + (unsigned)day + 1;
 }
 
+static void print_entry(size_t place, const struct intake_entry *e) {
+    printf("entry %zu: sender %" PRIu64 ", commodity %" PRIu64 ", kind %" PRIu64 ", record %" PRIu64 ", site %" PRIu64 ", days %" PRIu64
+           " to %" PRIu64 ", charge %" PRId64 ", usage %" PRId64 ", state %" PRIu64 ", cancels %" PRIu64 "\n",
+           place, e->sender, e->commodity, e->kind, e->id, e->site, e->start, e->end, e->charge, e->usage, e->state, e->cancels);
+}
+
 static void print_period(uint64_t place, const struct intake_entry *period) {
     printf("found at %" PRIu64 ": record %" PRIu64 ", %u to %u\n", place, period->id, date_of(period->start), date_of(period->end));
 }
@@ -236,6 +248,12 @@ static enum status show_totals(const struct ledger *ledger) {
     print_sums("live", sums.live_charge, sums.live_kwh, sums.live_gj);
     print_sums("held", sums.held_charge, sums.held_kwh, sums.held_gj);
     return DONE;
+}
+
+static void show_entries(const struct ledger *ledger) {
+    for (size_t place = 0; place < ledger->used; place++) {
+        print_entry(place, &ledger->run[place]);
+    }
 }
 
 static enum status show_period(const struct ledger *ledger, const struct query *query) {
@@ -300,6 +318,10 @@ static enum status book_files(struct ledger *ledger, const struct request *reque
 
 static enum status show_ledger(const struct ledger *ledger, const struct request *request) {
     enum status status = show_totals(ledger);
+    /* Of a ledger that isn't sound the used count may pass the run. */
+    if (request->entries && status == DONE) {
+        show_entries(ledger);
+    }
     for (size_t i = 0; i < request->query_count; i++) {
         status = worse(status, show_period(ledger, &request->queries[i]));
     }

@@ -39,13 +39,13 @@ s=samples
 site=20000000001
 
 about 'A books January, 100.00. B cancels it and rebills 90.00.'
-call $s/desk-a.csv $s/desk-b.csv --find $site 20240101 --find $site 20240131 --find $site 20240201
+call $s/desk-a.csv $s/desk-b.csv --find 00$site 20240101 --find $site 20240131 --find $site 20240201
 about 'A cancel of -99.99 instead.'
 call $s/desk-a.csv $s/desk-cancel-of-another-amount.csv
 about "B's cancel sent again under new IDs."
 call $s/desk-a.csv $s/desk-b.csv $s/desk-cancel-sent-again.csv
 about 'C brings 31 January to 27 February, 50.00.'
-call $s/desk-a.csv $s/desk-b.csv $s/desk-c.csv --find $site 20240131 --find $site 20240201
+call $s/desk-a.csv $s/desk-b.csv $s/desk-c.csv --entries --find $site 20240131 --find $site 20240201
 about 'With one entry left, a file of FH and one OC; then with two.'
 call --places 3 $s/desk-a.csv $s/desk-one-time-charge.csv
 call --places 4 $s/desk-a.csv $s/desk-one-time-charge.csv
@@ -73,8 +73,8 @@ call --distributors 004 $s/desk-a.csv
 call --distributors '' $s/desk-a.csv
 call --places 0 $s/desk-a.csv
 call --places 9000 $s/desk-a.csv --find $site 20240101
-call --places 4 --used 1 $s/desk-a.csv --find $site 20240101
-call --places 4 --used 9223372036854775808 $s/desk-a.csv --find $site 20240101
+call --places 4 --used 1 $s/desk-a.csv --entries --find $site 20240101
+call --places 4 --used 9223372036854775808 $s/desk-a.csv --entries --find $site 20240101
 about 'Sites and days at and past their limits.'
 call --find 9999999999999 20991231 --find 10000000000000 20240101 --find $site 20230229 --find $site 21000101
 
