@@ -114,7 +114,7 @@ pub fn medians<Input, Answer: PartialEq + Debug>(
 /// A line with the medians of a case and their ratio.
 pub fn report(what: &str, medians: &Medians) {
     let Medians { proved, reference } = medians;
-    println!("{what}: proved {proved:.0} us, reference {reference:.0} us, ratio {:.2}", proved / reference);
+    println!("{what}: proved {proved:.1} us, reference {reference:.1} us, ratio {:.2}", proved / reference);
 }
 
 /// A line with the growth of both sides from a smaller case to a larger one.
