@@ -3,6 +3,6 @@
 set -euo pipefail
 cd "$(dirname "$0")/.."
 mkdir -p target/host
-for program in fields check; do
+for program in fields check histories; do
   cc -std=c11 -Wall -Wextra -Werror -O2 -Ihost -o "target/host/$program" "host/$program.c" target/staticlib/libintake.a
 done

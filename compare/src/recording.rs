@@ -14,7 +14,7 @@ use reference::ledger::{Entry, Totals};
 use std::fs::File;
 use std::io::{BufWriter, Write};
 
-/// So many Finds follow each booking.
+/// So many Finds follow each booking, as host/histories.c has it.
 pub const FINDS: usize = 2;
 
 /// A Find and its answer.
