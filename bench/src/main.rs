@@ -31,7 +31,7 @@ use reading::Reading;
 use reference::check::check;
 use reference::file::RecordType;
 use reference::generate::RETAILER;
-use reference::ledger::MOST_ENTRIES;
+use reference::ledger::{Entry, MOST_ENTRIES};
 use timing::{medians, medians_of_kinds, medians_of_restored_kinds, report, report_growth, Medians};
 use words::{BookingInWords, LedgerInWords};
 
@@ -146,7 +146,7 @@ fn report_bookings<Timed: Case + From<Booking>>(book: &str) {
 /// Times Totals and Find of ledgers in runs of so many places.
 fn report_readings<const SIZES: usize>(used: [usize; SIZES], places: usize) {
     let mut ledgers = Ledgers::new();
-    let mut draw = |size: usize| Reading::new(&mut ledgers, used[size], places);
+    let mut draw = |size: usize| Reading::new(ledgers.full(used[size]), places);
     let totals: [Medians; SIZES] = medians_of_kinds(&mut draw, true, Reading::totals_by_proved, Reading::totals_by_reference);
     let finds: [Medians; SIZES] = medians_of_kinds(&mut draw, true, Reading::find_by_proved, Reading::find_by_reference);
     for (call, sizes) in [("intake_totals", totals), ("intake_find", finds)] {
@@ -156,12 +156,25 @@ fn report_readings<const SIZES: usize>(used: [usize; SIZES], places: usize) {
     }
 }
 
+/// Times Totals of full ledgers that are made to hurt, and of ones that are not sound.
+fn report_hurt_totals() {
+    let mut ledgers = Ledgers::new();
+    let mut report_totals = |what: &str, draw: fn(&mut Ledgers, usize) -> Vec<Entry>| {
+        let draw = || Reading::new(draw(&mut ledgers, MOST_ENTRIES), MOST_ENTRIES);
+        let medians = medians(draw, true, Reading::totals_by_proved, Reading::totals_by_reference);
+        report(&format!("intake_totals, {MOST_ENTRIES} entries, {what}"), &medians);
+    };
+    report_totals("refused by 105, the last with a key of another", Ledgers::with_a_repeated_key);
+    report_totals("keys in one bucket", Ledgers::in_one_bucket);
+}
+
 /// Times the calls of the C interface that are lent a run.
 fn report_ledger() {
     report_bookings::<Booking>("intake_book");
     report_periods::<Booking>("intake_book", &mut Bookings::new(), 20, SMALL_USED, SMALL_PLACES);
     report_readings(USED_AND_READ, MOST_ENTRIES);
     report_readings([100, 400], SMALL_PLACES);
+    report_hurt_totals();
 }
 
 fn report_soundness() {

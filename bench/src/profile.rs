@@ -15,7 +15,7 @@ pub fn profile(side: &str, calls: usize) {
     let one_site = || Files::new().one_site(4_096, 1_000);
     let ledger = |entries| LedgerInWords::new(Ledgers::new().full(entries));
     let booking = || Bookings::new().periods(100, 8_000, MOST_ENTRIES);
-    let reading = |entries| Reading::new(&mut Ledgers::new(), entries, MOST_ENTRIES);
+    let reading = |entries| Reading::new(Ledgers::new().full(entries), MOST_ENTRIES);
     match side {
         "proved-check" => repeat(calls, &file(), |file| proved_check(file)),
         "reference-check" => repeat(calls, &file(), |file| reference_check(file)),

@@ -7,7 +7,7 @@ use reference::check::Settings;
 use reference::generate::random::Random;
 use reference::generate::scenario::SENTENCES;
 use reference::generate::{Generator, Style, DISTRIBUTOR, RETAILER};
-use reference::ledger::{find, first_broken, totals, Entry};
+use reference::ledger::{find, first_broken, totals, Entry, MOST_ENTRIES};
 use std::collections::BTreeMap;
 
 /// So many ledgers are made to break each sentence first.
@@ -17,6 +17,10 @@ const SOUND: usize = 400;
 
 /// So many changes are tried on each sound ledger.
 const CHANGES: usize = 50;
+
+/// The used entries of larger sound ledgers: about as many as the small scratch of the proved functions has room for, and up to as many
+/// as a ledger may have. The runs have some places more where they may.
+const LARGE: [usize; 8] = [1_000, 1_023, 1_024, 1_025, 1_026, 3_000, 8_191, 8_192];
 
 struct Comparison {
     tally: Tally,
@@ -97,8 +101,23 @@ fn file_to_book(generator: &mut Generator) -> Vec<u8> {
     generator.write(&draft)
 }
 
-fn hold_sound(comparison: &mut Comparison, generator: &mut Generator, bookings: usize) {
-    let (run, used) = generator.ledger(200, bookings);
+/// A sound ledger of just so many used entries, the first of them from many small files.
+fn large_ledger(generator: &mut Generator, entries: usize) -> (Vec<Entry>, usize) {
+    let (mut run, mut used) = generator.ledger((entries + 8).min(MOST_ENTRIES), 40);
+    while used < entries {
+        let request = generator.request();
+        // A file adds an entry of its own, and a single entry left would be too few for any file.
+        let periods = (entries - used - 1).min(700);
+        let periods = if entries - used == periods + 2 { periods - 1 } else { periods };
+        let draft = generator.valid_of_periods(&request, periods);
+        used += generator.book_draft(&draft, &mut run, used);
+    }
+    assert_eq!(used, entries);
+    (run, used)
+}
+
+/// Holds a sound ledger, without the places past its used ones too, and with changes.
+fn hold_sound(comparison: &mut Comparison, generator: &mut Generator, (run, used): (Vec<Entry>, usize)) {
     let (asked, file) = (questions(generator, &run, used), file_to_book(generator));
     comparison.hold(&run, used, &asked, &file);
     comparison.hold(&run[..used], used, &asked, &file);
@@ -116,7 +135,12 @@ pub fn compare(seed: u64) -> u64 {
     let mut comparison = Comparison { tally: Tally::new(), distributors: generator.distributors(), broken: BTreeMap::new() };
     comparison.hold(&[], 0, &[(0, 0)], &file_to_book(generator));
     for count in 0..SOUND {
-        hold_sound(&mut comparison, generator, 1 + count % 12);
+        let ledger = generator.ledger(200, 1 + count % 12);
+        hold_sound(&mut comparison, generator, ledger);
+    }
+    for entries in LARGE {
+        let ledger = large_ledger(generator, entries);
+        hold_sound(&mut comparison, generator, ledger);
     }
     for sentence in SENTENCES {
         for _ in 0..BROKEN_FOR_EACH {
