@@ -4,7 +4,7 @@ set -euo pipefail
 cd "$(dirname "$0")/.."
 mkdir -p target/host/asan
 build() { cc -std=c11 -Wall -Wextra -Wpedantic -Werror -pthread -Ihost "$@" target/staticlib/libintake.a; }
-for program in fields check ledger bad_calls stack; do
+for program in fields check ledger bad_calls stack histories; do
   build -O2 -o "target/host/$program" "host/$program.c"
 done
 for program in ledger bad_calls; do

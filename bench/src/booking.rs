@@ -1,8 +1,8 @@
-//! The bookings that Book is timed on: a ledger with room for as many entries as it may have, and a file to book into it.
+//! The bookings that Book is timed on: a ledger, mostly with room for as many entries as it may have, and a file to book into it.
 
 use crate::files::{Files, Ids};
 use crate::ledgers::{Ledgers, REQUEST, SENDERS};
-use compare::proved::Words;
+use compare::proved;
 use reference::booking::{book, Answer};
 use reference::check::Settings;
 use reference::file::{RecordType, MOST_LINES};
@@ -15,60 +15,66 @@ use std::cell::RefCell;
 /// How many periods a file has between its header, its one site header and its trailer.
 const PERIODS_OF_ONE_SITE: usize = MOST_LINES - 3;
 
-/// A ledger and a file, for both sides.
+/// An input that either side is called on, and that is restored after each call.
+pub trait Case {
+    /// The number of the proved function's answer, 0 where the file is accepted.
+    fn by_proved(&self) -> u32;
+
+    /// The same of the reference implementation.
+    fn by_reference(&self) -> u32;
+
+    /// Makes the ledger as it was before a call.
+    fn restore(&self);
+}
+
+/// A ledger and a file. Both sides are lent the same run.
 pub struct Booking {
     distributors: Vec<u8>,
-    file: Vec<u8>,
-    used: usize,
-    run: RefCell<Vec<Entry>>,
-    words: RefCell<Words>,
+    pub file: Vec<u8>,
+    pub used: usize,
+    pub run: RefCell<Vec<Entry>>,
     /// The places that a call changes, and the entries that they have before it.
-    changed: Vec<(usize, Entry)>,
+    pub changed: Vec<(usize, Entry)>,
 }
 
 impl Booking {
-    /// The booking of a file into the entries of a ledger.
-    fn new(stored: &[Entry], draft: &Draft) -> Booking {
+    /// The booking of a file into the entries of a ledger, which stand in a run of so many places.
+    fn new(stored: &[Entry], places: usize, draft: &Draft) -> Booking {
         let mut run = stored.to_vec();
-        run.resize(MOST_ENTRIES, Entry::default());
-        let mut words = Words::new();
-        words.fill(&run);
+        run.resize(places, Entry::default());
         let distributors = SENDERS.map(|sender| format!("{sender:04}")).concat().into_bytes();
-        let mut booking = Booking {
-            distributors,
-            file: draft.plain_bytes(),
-            used: stored.len(),
-            run: RefCell::new(run.clone()),
-            words: RefCell::new(words),
-            changed: Vec::new(),
-        };
+        let file = draft.plain_bytes();
+        let mut booking = Booking { distributors, file, used: stored.len(), run: RefCell::new(run.clone()), changed: Vec::new() };
         booking.by_reference();
         booking.changed = run.into_iter().enumerate().filter(|(place, before)| booking.run.borrow()[*place] != *before).collect();
         booking.restore();
         booking
     }
 
-    /// The number of the reference implementation's answer, 0 where the file is accepted.
-    pub fn by_reference(&self) -> u32 {
-        number_of(book(RETAILER, &self.distributors, &self.file, &mut self.run.borrow_mut(), self.used))
-    }
-
-    /// The same of the proved function.
-    pub fn by_proved(&self) -> u32 {
-        let settings = Settings { retailer: RETAILER, distributors: &self.distributors };
-        number_of(compare::book(&mut self.words.borrow_mut(), MOST_ENTRIES, self.used, settings, &self.file))
-    }
-
-    /// Makes the ledger as it was before a call.
-    pub fn restore(&self) {
-        for (place, entry) in &self.changed {
-            self.run.borrow_mut()[*place] = *entry;
-            self.words.borrow_mut().set(*place, entry);
-        }
+    pub fn settings(&self) -> Settings<'_> {
+        Settings { retailer: RETAILER, distributors: &self.distributors }
     }
 }
 
-fn number_of(answer: Answer) -> u32 {
+impl Case for Booking {
+    fn by_proved(&self) -> u32 {
+        let mut run = self.run.borrow_mut();
+        let places = run.len();
+        number_of(proved::book(&mut run, places, self.used, self.settings(), &self.file))
+    }
+
+    fn by_reference(&self) -> u32 {
+        number_of(book(RETAILER, &self.distributors, &self.file, &mut self.run.borrow_mut(), self.used))
+    }
+
+    fn restore(&self) {
+        let mut run = self.run.borrow_mut();
+        self.changed.iter().for_each(|(place, entry)| run[*place] = *entry);
+    }
+}
+
+/// The number of an answer, 0 where the file is accepted.
+pub fn number_of(answer: Answer) -> u32 {
     match answer {
         Answer::Booked { .. } => 0,
         Answer::Refused(refusal) => refusal.number,
@@ -86,22 +92,22 @@ impl Bookings {
         Bookings { ledgers: Ledgers::new(), files: Files::new() }
     }
 
-    /// A file of so many periods into a ledger of so many entries, some of whose sites it bills again.
-    pub fn periods(&mut self, periods: usize, entries: usize) -> Booking {
+    /// A file of so many periods into a ledger of so many entries in a run of so many places. It bills some of the ledger's sites again.
+    pub fn periods(&mut self, periods: usize, entries: usize, places: usize) -> Booking {
         let stored = self.ledgers.full(entries);
         let draft = self.ledgers.generator.valid_of_periods(&REQUEST, periods);
-        Booking::new(&stored, &draft)
+        Booking::new(&stored, places, &draft)
     }
 
     /// A file of as many lines as a file may have into an empty ledger.
     pub fn most_lines(&mut self) -> Booking {
-        Booking::new(&[], &self.files.many_sites_draft(MOST_LINES, Ids::Rising))
+        Booking::new(&[], MOST_ENTRIES, &self.files.many_sites_draft(MOST_LINES, Ids::Rising))
     }
 
     /// A file of so many cancels of periods into a ledger that has them, and so many other entries before them.
     pub fn cancels(&mut self, cancels: usize, others: usize) -> Booking {
         let (stored, draft) = self.cancels_draft(cancels, others);
-        Booking::new(&stored, &draft)
+        Booking::new(&stored, MOST_ENTRIES, &draft)
     }
 
     /// The same, but the last cancel has no Reference ID.
@@ -109,7 +115,7 @@ impl Bookings {
         let (stored, mut draft) = self.cancels_draft(cancels, others);
         let place = *draft.places(|record| record.record_type == RecordType::PeriodHeader).last().expect("the file has cancels");
         draft.records[place].set(8, "");
-        Booking::new(&stored, &draft)
+        Booking::new(&stored, MOST_ENTRIES, &draft)
     }
 
     fn cancels_draft(&mut self, cancels: usize, others: usize) -> (Vec<Entry>, Draft) {
@@ -127,7 +133,7 @@ impl Bookings {
         let mut run = vec![Entry::default(); 1 + PERIODS_OF_ONE_SITE];
         let (earlier, later) = (self.one_site_draft(0), self.one_site_draft(1));
         assert_eq!(self.ledgers.generator.book_draft(&earlier, &mut run, 0), run.len());
-        Booking::new(&run, &later)
+        Booking::new(&run, MOST_ENTRIES, &later)
     }
 
     /// A file of periods of one site: of every other day, from one on.

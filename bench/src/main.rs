@@ -1,12 +1,15 @@
-//! Check, the soundness of ledgers and Book, the proved functions beside the reference implementation.
+//! Check, Book, Totals and Find, the proved functions beside the reference implementation.
 //!
-//! `cargo run --release --offline` times both sides in one run: medians of 11, each on a fresh input, and their ratios. Book is timed
-//! where it is the proved function (feature `book`); `cargo run --release --offline -- bookings` times it alone, whatever it is.
+//! `cargo run --release --offline` times both sides in one run: medians of 11, each on a fresh input, and their ratios.
+//! `cargo run --release --offline -- ledger` times Book, Totals and Find alone, and `cargo run --release --offline -- words` what they
+//! are made upon: soundness and Book over a ledger in words.
 //!
 //! `cargo run --release --offline -- profile SIDE N` calls one side N times on one input and prints nothing, for a profiler. SIDE
 //! is `proved-check` or `reference-check` (a file of 4,096 lines and many sites), one of these two with `-of-one-site` at its end,
-//! `proved-soundness` or `reference-soundness` (a ledger of 8,192 entries), one of these two with `-of-1000` at its end (a ledger
-//! of 1,000 entries), or `proved-book` or `reference-book` (100 periods into a ledger of 8,000 entries). The instructions of a call are those of N = 11 without those of N = 1, divided by 10:
+//! `proved-book` or `reference-book` (100 periods into 8,000 entries), `proved-totals`, `reference-totals`, `proved-find` or
+//! `reference-find` (8,000 entries), one of the first two of these with `-of-100` at its end (100 entries), or over words
+//! `proved-soundness` or `reference-soundness` (8,192 entries), one of these two with `-of-1000` at its end (1,000 entries), or
+//! `proved-book-over-words`. The instructions of a call are those of N = 11 without those of N = 1, divided by 10:
 //! `valgrind --tool=callgrind target/release/bench profile reference-check 11`.
 
 mod booking;
@@ -14,19 +17,23 @@ mod files;
 mod hurt;
 mod ledgers;
 mod longest;
+mod profile;
+mod reading;
 mod timing;
+mod words;
 
-use booking::{Booking, Bookings};
+use booking::{Booking, Bookings, Case};
 use compare::proved;
 use files::{Files, Ids};
 use hurt::LATE_FAILURES;
 use ledgers::Ledgers;
+use reading::Reading;
 use reference::check::check;
 use reference::file::RecordType;
 use reference::generate::RETAILER;
-use reference::ledger::{sound, Entry};
-use std::hint::black_box;
+use reference::ledger::{Entry, MOST_ENTRIES};
 use timing::{medians, medians_of_kinds, medians_of_restored_kinds, report, report_growth, Medians};
+use words::{BookingInWords, LedgerInWords};
 
 const DISTRIBUTORS: &[u8] = b"0040";
 
@@ -36,6 +43,15 @@ const ENTRIES: [usize; 3] = [1_000, 4_000, 8_192];
 
 /// The entries in use of the ledgers that a file is booked into.
 const USED: [usize; 3] = [1_000, 4_000, 8_000];
+
+/// The entries in use of the ledgers that are read.
+const USED_AND_READ: [usize; 3] = [100, 1_000, 8_000];
+
+/// The places of a small run, as the desk's is.
+const SMALL_PLACES: usize = 512;
+
+/// The entries in use of a small run.
+const SMALL_USED: [usize; 3] = [0, 100, 400];
 
 /// The number and line of a passing file.
 const PASSES: (u32, u32) = (0, 0);
@@ -98,106 +114,102 @@ fn report_checks() {
     }
 }
 
-/// A ledger for both sides.
-struct Ledger {
-    run: Vec<Entry>,
-    words: proved::Words,
+/// Times bookings that are accepted or that a number refuses.
+fn report_booking<Timed: Case + From<Booking>>(what: &str, number: u32, mut draw: impl FnMut() -> Booking) {
+    let [medians] = medians_of_restored_kinds(|_| draw().into(), number, Timed::restore, Timed::by_proved, Timed::by_reference);
+    report(what, &medians);
 }
 
-fn reference_sound(ledger: &Ledger) -> bool {
-    sound(&ledger.run, ledger.run.len())
+/// Times bookings of some periods into ledgers of three sizes, in runs of so many places.
+fn report_periods<Timed: Case + From<Booking>>(book: &str, bookings: &mut Bookings, periods: usize, used: [usize; 3], places: usize) {
+    let draw = |size: usize| bookings.periods(periods, used[size], places).into();
+    let sizes: [Medians; 3] = medians_of_restored_kinds(draw, 0, Timed::restore, Timed::by_proved, Timed::by_reference);
+    for (used, medians) in used.iter().zip(&sizes) {
+        report(&format!("{book}, {periods} periods into {used} entries of {places} places"), medians);
+    }
+    let [smallest, _, largest] = used;
+    report_growth(&format!("{book}, {periods} periods, from {smallest} to {largest} entries"), &sizes[0], &sizes[2]);
 }
 
-fn proved_sound(ledger: &Ledger) -> bool {
-    ledger.words.sound(ledger.run.len(), ledger.run.len())
+/// Times all bookings into runs as long as they may be.
+fn report_bookings<Timed: Case + From<Booking>>(book: &str) {
+    let mut bookings = Bookings::new();
+    report_periods::<Timed>(book, &mut bookings, 100, USED, MOST_ENTRIES);
+    report_booking::<Timed>(&format!("{book}, 4096 lines into an empty ledger"), 0, || bookings.most_lines());
+    report_booking::<Timed>(&format!("{book}, 1000 cancels into 4001 entries"), 0, || bookings.cancels(1_000, 3_000));
+    let what = format!("{book}, 1000 cancels into 4001 entries, refused by 39 at the last");
+    report_booking::<Timed>(&what, 39, || bookings.cancels_without_the_last(1_000, 3_000));
+    let what = format!("{book}, 4093 periods of one site into a ledger with as many of it");
+    report_booking::<Timed>(&what, 0, || bookings.one_site());
 }
 
-fn ledger_of(run: Vec<Entry>) -> Ledger {
-    let mut words = proved::Words::new();
-    words.fill(&run);
-    Ledger { run, words }
+/// Times Totals and Find of ledgers in runs of so many places.
+fn report_readings<const SIZES: usize>(used: [usize; SIZES], places: usize) {
+    let mut ledgers = Ledgers::new();
+    let mut draw = |size: usize| Reading::new(ledgers.full(used[size]), places);
+    let totals: [Medians; SIZES] = medians_of_kinds(&mut draw, true, Reading::totals_by_proved, Reading::totals_by_reference);
+    let finds: [Medians; SIZES] = medians_of_kinds(&mut draw, true, Reading::find_by_proved, Reading::find_by_reference);
+    for (call, sizes) in [("intake_totals", totals), ("intake_find", finds)] {
+        for (used, medians) in used.iter().zip(&sizes) {
+            report(&format!("{call}, {used} entries of {places} places"), medians);
+        }
+    }
+}
+
+/// Times Totals of full ledgers that are made to hurt, and of ones that are not sound.
+fn report_hurt_totals() {
+    let mut ledgers = Ledgers::new();
+    let mut report_totals = |what: &str, draw: fn(&mut Ledgers, usize) -> Vec<Entry>| {
+        let draw = || Reading::new(draw(&mut ledgers, MOST_ENTRIES), MOST_ENTRIES);
+        let medians = medians(draw, true, Reading::totals_by_proved, Reading::totals_by_reference);
+        report(&format!("intake_totals, {MOST_ENTRIES} entries, {what}"), &medians);
+    };
+    report_totals("refused by 105, the last with a key of another", Ledgers::with_a_repeated_key);
+    report_totals("keys in one bucket", Ledgers::in_one_bucket);
+}
+
+/// Times the calls of the C interface that are lent a run.
+fn report_ledger() {
+    report_bookings::<Booking>("intake_book");
+    report_periods::<Booking>("intake_book", &mut Bookings::new(), 20, SMALL_USED, SMALL_PLACES);
+    report_readings(USED_AND_READ, MOST_ENTRIES);
+    report_readings([100, 400], SMALL_PLACES);
+    report_hurt_totals();
 }
 
 fn report_soundness() {
     let mut ledgers = Ledgers::new();
-    let sizes: [Medians; 3] = medians_of_kinds(|size| ledger_of(ledgers.full(ENTRIES[size])), true, proved_sound, reference_sound);
+    let (proved, reference) = (LedgerInWords::sound_by_proved, LedgerInWords::sound_by_reference);
+    let sizes: [Medians; 3] = medians_of_kinds(|size| LedgerInWords::new(ledgers.full(ENTRIES[size])), true, proved, reference);
     for (entries, medians) in ENTRIES.iter().zip(&sizes) {
-        report(&format!("soundness, {entries} entries"), medians);
+        report(&format!("soundness over words, {entries} entries"), medians);
     }
-    report_growth("soundness, from 1000 to 8192 entries", &sizes[0], &sizes[2]);
-    let repeated = || ledger_of(ledgers.with_a_repeated_key(8_192));
-    report("soundness, 8192 entries, the last with a key of another", &medians(repeated, false, proved_sound, reference_sound));
-    let one_bucket = || ledger_of(ledgers.in_one_bucket(8_192));
-    report("soundness, 8192 entries, keys in one bucket", &medians(one_bucket, true, proved_sound, reference_sound));
+    report_growth("soundness over words, from 1000 to 8192 entries", &sizes[0], &sizes[2]);
+    let repeated = || LedgerInWords::new(ledgers.with_a_repeated_key(8_192));
+    report("soundness over words, 8192 entries, the last with a key of another", &medians(repeated, false, proved, reference));
+    let one_bucket = || LedgerInWords::new(ledgers.in_one_bucket(8_192));
+    report("soundness over words, 8192 entries, keys in one bucket", &medians(one_bucket, true, proved, reference));
 }
 
-/// Times bookings that are accepted or that a number refuses.
-fn report_booking(what: &str, number: u32, mut draw: impl FnMut() -> Booking) {
-    let [medians] = medians_of_restored_kinds(|_| draw(), number, Booking::restore, Booking::by_proved, Booking::by_reference);
-    report(&format!("book, {what}"), &medians);
-}
-
-fn report_bookings() {
-    let mut bookings = Bookings::new();
-    let draw = |size: usize| bookings.periods(100, USED[size]);
-    let sizes: [Medians; 3] = medians_of_restored_kinds(draw, 0, Booking::restore, Booking::by_proved, Booking::by_reference);
-    for (used, medians) in USED.iter().zip(&sizes) {
-        report(&format!("book, 100 periods into {used} entries"), medians);
-    }
-    report_growth("book, 100 periods, from 1000 to 8000 entries", &sizes[0], &sizes[2]);
-    report_booking("4096 lines into an empty ledger", 0, || bookings.most_lines());
-    report_booking("1000 cancels into 4001 entries", 0, || bookings.cancels(1_000, 3_000));
-    report_booking("1000 cancels into 4001 entries, refused by 39 at the last", 39, || bookings.cancels_without_the_last(1_000, 3_000));
-    report_booking("4093 periods of one site into a ledger with as many of it", 0, || bookings.one_site());
-}
-
-/// Calls one side so many times on one input.
-fn profile(side: &str, calls: usize) {
-    let file = || Files::new().many_sites(4_096, Ids::Rising);
-    let one_site = || Files::new().one_site(4_096, 1_000);
-    let ledger = || ledger_of(Ledgers::new().full(8_192));
-    let small_ledger = || ledger_of(Ledgers::new().full(1_000));
-    match side {
-        "proved-check" => repeat(calls, &file(), |file| proved_check(file)),
-        "reference-check" => repeat(calls, &file(), |file| reference_check(file)),
-        "proved-check-of-one-site" => repeat(calls, &one_site(), |file| proved_check(file)),
-        "reference-check-of-one-site" => repeat(calls, &one_site(), |file| reference_check(file)),
-        "proved-soundness" => repeat(calls, &ledger(), proved_sound),
-        "reference-soundness" => repeat(calls, &ledger(), reference_sound),
-        "proved-soundness-of-1000" => repeat(calls, &small_ledger(), proved_sound),
-        "reference-soundness-of-1000" => repeat(calls, &small_ledger(), reference_sound),
-        "proved-book" => repeat_bookings(calls, Booking::by_proved),
-        "reference-book" => repeat_bookings(calls, Booking::by_reference),
-        _ => panic!("no side is called {side}"),
-    }
-}
-
-fn repeat<Input, Answer>(calls: usize, input: &Input, call: impl Fn(&Input) -> Answer) {
-    for _ in 0..calls {
-        black_box(call(black_box(input)));
-    }
-}
-
-fn repeat_bookings(calls: usize, book: impl Fn(&Booking) -> u32) {
-    let booking = Bookings::new().periods(100, 8_000);
-    repeat(calls, &booking, |booking| {
-        let number = book(booking);
-        booking.restore();
-        number
-    });
+/// Times what the calls that are lent a run are made upon.
+fn report_words() {
+    report_soundness();
+    report_bookings::<BookingInWords>("book over words");
 }
 
 fn main() {
     let arguments: Vec<String> = std::env::args().skip(1).collect();
-    match &arguments[..] {
+    let arguments: Vec<&str> = arguments.iter().map(String::as_str).collect();
+    match arguments[..] {
         [] => {
             report_checks();
             report_hurt();
-            report_soundness();
-            report_bookings();
+            report_ledger();
+            report_words();
         }
-        [command] if command == "bookings" => report_bookings(),
-        [command, side, calls] if command == "profile" => profile(side, calls.parse().expect("N is a number")),
-        _ => panic!("usage: bench [bookings | profile SIDE N]"),
+        ["ledger"] => report_ledger(),
+        ["words"] => report_words(),
+        ["profile", side, calls] => profile::profile(side, calls.parse().expect("N is a number")),
+        _ => panic!("usage: bench [ledger | words | profile SIDE N]"),
     }
 }

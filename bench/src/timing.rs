@@ -2,6 +2,7 @@
 
 use std::fmt::Debug;
 use std::hint::black_box;
+use std::sync::OnceLock;
 
 mod clock {
     /// A time as the C library of Linux counts it.
@@ -36,6 +37,16 @@ fn running_time() -> f64 {
     time.seconds as f64 * 1e6 + time.nanoseconds as f64 / 1e3
 }
 
+/// What it takes to ask for the time, which a call of few microseconds must not be charged with.
+fn asking_time() -> f64 {
+    static MEDIAN: OnceLock<f64> = OnceLock::new();
+    let nothing_timed = || {
+        let start = running_time();
+        running_time() - start
+    };
+    *MEDIAN.get_or_init(|| median((0..101).map(|_| nothing_timed()).collect()))
+}
+
 /// The answer and the time of a side on a fresh input, in microseconds. It is called on an earlier input first, so that it finds
 /// its own code and memory in the cache, and not those of the other side. Each input is restored after its call.
 fn timed<Input, Answer>(side: impl Fn(&Input) -> Answer, restore: impl Fn(&Input), earlier: &Input, fresh: &Input) -> (Answer, f64) {
@@ -43,7 +54,7 @@ fn timed<Input, Answer>(side: impl Fn(&Input) -> Answer, restore: impl Fn(&Input
     restore(earlier);
     let start = running_time();
     let answer = black_box(side(black_box(fresh)));
-    let time = running_time() - start;
+    let time = running_time() - start - asking_time();
     restore(fresh);
     (answer, time)
 }
@@ -114,7 +125,7 @@ pub fn medians<Input, Answer: PartialEq + Debug>(
 /// A line with the medians of a case and their ratio.
 pub fn report(what: &str, medians: &Medians) {
     let Medians { proved, reference } = medians;
-    println!("{what}: proved {proved:.0} us, reference {reference:.0} us, ratio {:.2}", proved / reference);
+    println!("{what}: proved {proved:.1} us, reference {reference:.1} us, ratio {:.2}", proved / reference);
 }
 
 /// A line with the growth of both sides from a smaller case to a larger one.

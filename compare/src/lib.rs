@@ -1,5 +1,3 @@
 //! The proved functions, for the comparison and the benchmark.
 
 pub mod proved;
-
-pub use proved::book;

@@ -1,58 +1,100 @@
-//! The proved functions, as the static library exports them, behind safe functions.
+//! The proved functions, as the static libraries export them, behind safe functions.
 
 use reference::booking::Answer;
 use reference::check::{Refusal, Settings};
-use reference::ledger::{Entry, StateTotals, Totals, MOST_ENTRIES};
+use reference::ledger::{Entry, StateTotals, Totals};
+use std::mem::{offset_of, size_of, size_of_val};
 
 mod exported {
+    use reference::ledger::Entry;
+
+    /// `struct intake_booking` of host/intake.h.
+    #[derive(Debug)]
+    #[repr(C)]
+    pub struct Booking {
+        pub number: u64,
+        pub line: u64,
+        pub added: u64,
+        pub held: u64,
+    }
+
+    /// `struct intake_sums`.
+    #[derive(Debug)]
+    #[repr(C)]
+    pub struct Sums {
+        pub number: u64,
+        pub live_charge: i64,
+        pub live_kwh: i64,
+        pub live_gj: i64,
+        pub held_charge: i64,
+        pub held_kwh: i64,
+        pub held_gj: i64,
+    }
+
+    /// `struct intake_place`.
+    #[derive(Debug)]
+    #[repr(C)]
+    pub struct Place {
+        pub number: u64,
+        pub found: u64,
+        pub place: u64,
+    }
+
     extern "C" {
         pub fn intake_day(date: *const u8, date_len: usize) -> u64;
         pub fn intake_code(test: u64) -> u64;
         pub fn intake_check(retailer: u64, distributors: *const u8, distributors_len: usize, file: *const u8, file_len: usize) -> u64;
-        pub fn comparison_amount(field: *const u8, field_len: usize, precision: u64, places: u64, units: *mut i64) -> u64;
-        pub fn comparison_number(field: *const u8, field_len: usize, precision: u64, places: u64) -> u64;
-        pub fn comparison_digits(field: *const u8, field_len: usize, count: u64, value: *mut u64) -> u64;
-        pub fn comparison_date_time(field: *const u8, field_len: usize, day: *mut u64, second: *mut u64) -> u64;
-        pub fn comparison_shares_day(start: u64, end: u64, other_start: u64, other_end: u64) -> u64;
-        pub fn ledger_sound(words: *const u64, words_len: usize, amounts: *const i64, amounts_len: usize, places: usize, used: usize) -> u64;
-        pub fn ledger_totals(words: *const u64, words_len: usize, amounts: *const i64, amounts_len: usize, places: usize, used: usize) -> u64;
-        pub fn ledger_total(
-            words: *const u64,
-            words_len: usize,
-            amounts: *const i64,
-            amounts_len: usize,
-            places: usize,
-            used: usize,
-            state: u64,
-            which: u64,
-        ) -> i64;
-        pub fn ledger_find(
-            words: *const u64,
-            words_len: usize,
-            amounts: *const i64,
-            amounts_len: usize,
-            places: usize,
-            used: usize,
-            site: u64,
-            day: u64,
-        ) -> u64;
-        pub fn ledger_book(
+        pub fn intake_book(
             retailer: u64,
             distributors: *const u8,
             distributors_len: usize,
             file: *const u8,
             file_len: usize,
-            words: *mut u64,
-            words_len: usize,
-            amounts: *mut i64,
-            amounts_len: usize,
+            run: *mut Entry,
             places: usize,
             used: usize,
-        ) -> u64;
+        ) -> Booking;
+        pub fn intake_totals(run: *const Entry, places: usize, used: usize) -> Sums;
+        pub fn intake_find(run: *const Entry, places: usize, used: usize, site: u64, day: u64) -> Place;
+        pub fn comparison_amount(field: *const u8, field_len: usize, precision: u64, places: u64, units: *mut i64) -> u64;
+        pub fn comparison_number(field: *const u8, field_len: usize, precision: u64, places: u64) -> u64;
+        pub fn comparison_digits(field: *const u8, field_len: usize, count: u64, value: *mut u64) -> u64;
+        pub fn comparison_date_time(field: *const u8, field_len: usize, day: *mut u64, second: *mut u64) -> u64;
+        pub fn comparison_shares_day(start: u64, end: u64, other_start: u64, other_end: u64) -> u64;
     }
 }
 
-/// An answer of the host's interface: the refusal's number, or the value.
+/// Where the fields of an entry stand, in the order of `struct intake_entry`.
+const OFFSETS: [usize; 11] = [
+    offset_of!(Entry, sender),
+    offset_of!(Entry, commodity),
+    offset_of!(Entry, kind),
+    offset_of!(Entry, record_id),
+    offset_of!(Entry, site),
+    offset_of!(Entry, start),
+    offset_of!(Entry, end),
+    offset_of!(Entry, charge),
+    offset_of!(Entry, usage),
+    offset_of!(Entry, state),
+    offset_of!(Entry, cancelled_id),
+];
+
+/// The entries of the reference implementation are those of host/intake.h: eleven words, one after the other.
+const _: () = {
+    assert!(size_of::<Entry>() == 8 * OFFSETS.len());
+    let mut field = 0;
+    while field < OFFSETS.len() {
+        assert!(OFFSETS[field] == 8 * field);
+        field += 1;
+    }
+};
+
+/// The bytes of a run, which has no others than those of its fields.
+pub fn bytes_of(run: &[Entry]) -> &[u8] {
+    unsafe { std::slice::from_raw_parts(run.as_ptr().cast(), size_of_val(run)) }
+}
+
+/// An answer in one word: the refusal's number, or the value.
 fn unpacked(answer: u64) -> Result<u32, u32> {
     match (answer >> 32) as u32 {
         0 => Ok(answer as u32),
@@ -120,126 +162,57 @@ pub fn shares_day(one: (u64, u64), other: (u64, u64)) -> bool {
     unsafe { exported::comparison_shares_day(one.0, one.1, other.0, other.1) == 1 }
 }
 
-/// Book of a file with settings, over words that hold a run of so many places, so many of them used.
-pub type Book = fn(words: &mut Words, places: usize, used: usize, settings: Settings, file: &[u8]) -> Answer;
+/// Book of a file with settings, into the run that the first so many of the entries are, so many of them used. It may touch no
+/// entry past the run, where a test has some to see that.
+pub type Book = fn(entries: &mut [Entry], places: usize, used: usize, settings: Settings, file: &[u8]) -> Answer;
 
-pub fn book(words: &mut Words, places: usize, used: usize, settings: Settings, file: &[u8]) -> Answer {
+pub fn book(entries: &mut [Entry], places: usize, used: usize, settings: Settings, file: &[u8]) -> Answer {
+    assert!(places <= entries.len());
     let Settings { retailer, distributors } = settings;
-    let Words { words, amounts } = words;
+    let (distributors, distributors_len) = (distributors.as_ptr(), distributors.len());
     book_answer(unsafe {
-        exported::ledger_book(
-            retailer,
-            distributors.as_ptr(),
-            distributors.len(),
-            file.as_ptr(),
-            file.len(),
-            words.as_mut_ptr(),
-            words.len(),
-            amounts.as_mut_ptr(),
-            amounts.len(),
-            places,
-            used,
-        )
+        exported::intake_book(retailer, distributors, distributors_len, file.as_ptr(), file.len(), entries.as_mut_ptr(), places, used)
     })
 }
 
-/// The answer of Book: the refusal's number and line, or 65,536 times the number of entries added, and the number of them held. A file
-/// adds two entries at least.
-fn book_answer(answer: u64) -> Answer {
-    match ((answer >> 32) as u32, answer as u32) {
-        (0, 1) => panic!("the words have no room for the run"),
-        (0, counts) => Answer::Booked { added: (counts >> 16) as usize, held: (counts & 0xffff) as usize },
-        (number, line) => Answer::Refused(Refusal { number, line }),
+/// The answer of Book. What an acceptance or a refusal doesn't have is 0.
+fn book_answer(answer: exported::Booking) -> Answer {
+    match answer {
+        exported::Booking { number: 0, line: 0, added, held } => Answer::Booked { added: added as usize, held: held as usize },
+        exported::Booking { number, line, added: 0, held: 0 } if number != 0 => {
+            Answer::Refused(Refusal { number: narrow(number), line: narrow(line) })
+        }
+        other => panic!("Book answers {other:?}"),
     }
 }
 
-/// A ledger in words, nine and two amounts an entry.
-pub struct Words {
-    words: Vec<u64>,
-    amounts: Vec<i64>,
+fn narrow(number: u64) -> u32 {
+    number.try_into().expect("numbers and lines have 32 bits")
 }
 
-impl Words {
-    /// Words with room for 8,192 entries.
-    pub fn new() -> Words {
-        Words::with_room(MOST_ENTRIES)
-    }
-
-    /// Words with room for so many entries.
-    pub fn with_room(entries: usize) -> Words {
-        Words { words: vec![0; 9 * entries], amounts: vec![0; 2 * entries] }
-    }
-
-    /// The number of entries that there is room for.
-    pub fn room(&self) -> usize {
-        self.amounts.len() / 2
-    }
-
-    /// Puts the entries of a run into the words, as many as there is room for.
-    pub fn fill(&mut self, run: &[Entry]) {
-        for (place, entry) in run.iter().take(self.room()).enumerate() {
-            self.set(place, entry);
+/// Totals of the run that the first so many entries are. Where there is a refusal the sums are 0.
+pub fn totals(entries: &[Entry], places: usize, used: usize) -> Result<Totals, u32> {
+    assert!(places <= entries.len());
+    let sums = unsafe { exported::intake_totals(entries.as_ptr(), places, used) };
+    let live = StateTotals { charge: sums.live_charge, usage_kwh: sums.live_kwh, usage_gj: sums.live_gj };
+    let held = StateTotals { charge: sums.held_charge, usage_kwh: sums.held_kwh, usage_gj: sums.held_gj };
+    let totals = Totals { live, held };
+    match sums.number {
+        0 => Ok(totals),
+        number => {
+            assert!(totals == Totals::default(), "Totals answers {sums:?}");
+            Err(narrow(number))
         }
-    }
-
-    /// Puts an entry into its words.
-    pub fn set(&mut self, place: usize, entry: &Entry) {
-        let words = [entry.sender, entry.commodity, entry.kind, entry.record_id, entry.site, entry.start, entry.end, entry.state, entry.cancelled_id];
-        self.words[9 * place..9 * place + 9].copy_from_slice(&words);
-        self.amounts[2 * place..2 * place + 2].copy_from_slice(&[entry.charge, entry.usage]);
-    }
-
-    /// The entry in its words.
-    pub fn entry(&self, place: usize) -> Entry {
-        let words = &self.words[9 * place..9 * place + 9];
-        let amounts = &self.amounts[2 * place..2 * place + 2];
-        Entry {
-            sender: words[0],
-            commodity: words[1],
-            kind: words[2],
-            record_id: words[3],
-            site: words[4],
-            start: words[5],
-            end: words[6],
-            state: words[7],
-            cancelled_id: words[8],
-            charge: amounts[0],
-            usage: amounts[1],
-        }
-    }
-
-    /// Whether the ledger is sound: 0, or 105.
-    pub fn sound(&self, places: usize, used: usize) -> bool {
-        let (words, amounts) = (&self.words, &self.amounts);
-        match unsafe { exported::ledger_sound(words.as_ptr(), words.len(), amounts.as_ptr(), amounts.len(), places, used) } {
-            0 => true,
-            105 => false,
-            other => panic!("soundness answers {other}"),
-        }
-    }
-
-    pub fn totals(&self, places: usize, used: usize) -> Result<Totals, u32> {
-        let (words, amounts) = (&self.words, &self.amounts);
-        let number = unsafe { exported::ledger_totals(words.as_ptr(), words.len(), amounts.as_ptr(), amounts.len(), places, used) };
-        if number != 0 {
-            return Err(number as u32);
-        }
-        let total = |state, which| unsafe {
-            exported::ledger_total(words.as_ptr(), words.len(), amounts.as_ptr(), amounts.len(), places, used, state, which)
-        };
-        let of_state = |state| StateTotals { charge: total(state, 0), usage_kwh: total(state, 1), usage_gj: total(state, 2) };
-        Ok(Totals { live: of_state(1), held: of_state(2) })
-    }
-
-    pub fn find(&self, places: usize, used: usize, site: u64, day: u64) -> Result<Option<usize>, u32> {
-        let (words, amounts) = (&self.words, &self.amounts);
-        let answer = unsafe { exported::ledger_find(words.as_ptr(), words.len(), amounts.as_ptr(), amounts.len(), places, used, site, day) };
-        unpacked(answer).map(|place| (place as usize).checked_sub(1))
     }
 }
 
-impl Default for Words {
-    fn default() -> Words {
-        Words::new()
+/// Find in the run that the first so many entries are. The place is 0 where none is found.
+pub fn find(entries: &[Entry], places: usize, used: usize, site: u64, day: u64) -> Result<Option<usize>, u32> {
+    assert!(places <= entries.len());
+    match unsafe { exported::intake_find(entries.as_ptr(), places, used, site, day) } {
+        exported::Place { number: 0, found: 1, place } => Ok(Some(place as usize)),
+        exported::Place { number: 0, found: 0, place: 0 } => Ok(None),
+        exported::Place { number, found: 0, place: 0 } => Err(narrow(number)),
+        other => panic!("Find answers {other:?}"),
     }
 }

@@ -1,6 +1,8 @@
 //! Small files that cancel stored entries, most of them with rebills, and with
 //! one thing about a cancel wrong where that is wanted.
 
+use std::collections::HashSet;
+
 use crate::bill::Commodity;
 use crate::calendar::LAST_DAY;
 use crate::file::RecordType;
@@ -123,9 +125,11 @@ impl Generator {
         mistake: Option<Mistake>,
     ) -> Option<Vec<Entry>> {
         let mut open: Vec<&Entry> = stored.iter().filter(|entry| entry.is_live_or_held()).collect();
+        let cancelled = stored.iter().filter(|entry| entry.state == state::CANCELLED);
+        let cancelled: HashSet<_> = cancelled.map(what_is_billed).collect();
         let is_preferred = |entry: &Entry| match mistake {
             Some(Mistake::NoReference) => entry.record_id == 0,
-            _ => is_rebill(entry, stored),
+            _ => cancelled.contains(&what_is_billed(entry)),
         };
         let preferred: Vec<usize> =
             (0..open.len()).filter(|&place| is_preferred(open[place])).collect();
@@ -238,10 +242,10 @@ fn other_days(random: &mut Random, (start, end): (u64, u64)) -> (u64, u64) {
     }
 }
 
-/// Whether a cancelled entry has an entry's sender, kind, site and days.
-fn is_rebill(entry: &Entry, stored: &[Entry]) -> bool {
-    let key = |entry: &Entry| (entry.sender, entry.kind, entry.site, entry.period());
-    stored.iter().any(|other| other.state == state::CANCELLED && key(other) == key(entry))
+/// What an entry has in common with the one that it is billed in place of: the
+/// sender, the kind, the site and the days.
+fn what_is_billed(entry: &Entry) -> (u64, u64, u64, (u64, u64)) {
+    (entry.sender, entry.kind, entry.site, entry.period())
 }
 
 /// The cancel of an entry that can't be cancelled: of a cancel or a cancelled

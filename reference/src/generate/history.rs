@@ -2,6 +2,8 @@
 //! them damaged ones, repeated ones, cancels that nearly fit, files that are
 //! too large, and settings that don't fit.
 
+use std::collections::HashSet;
+
 use crate::file::{MOST_BYTES, MOST_LINES};
 use crate::generate::cancels::MISTAKES;
 use crate::generate::damage::CHECK_TESTS;
@@ -80,6 +82,17 @@ impl History {
         }
         let (retailer, distributors) = self.settings();
         Call { retailer, distributors, file }
+    }
+
+    /// A call that adds so many entries, at least two, for which nothing but
+    /// little room is in the way: its file has new Record IDs and no cancels,
+    /// and its settings fit.
+    pub fn filling_call(&mut self, entries: usize) -> Call {
+        let request = self.generator.request();
+        let draft = self.generator.valid_of_periods(&request, entries - 1);
+        let file = self.generator.write(&draft);
+        self.draft = Some(draft);
+        Call { retailer: RETAILER, distributors: self.generator.distributors(), file }
     }
 
     /// Takes note of the used entries after the last call, which was accepted,
@@ -217,13 +230,9 @@ impl Generator {
     /// Forgets the accepted originals that are neither live nor held among the
     /// used entries.
     fn keep_open(&mut self, stored: &[Entry]) {
-        self.sent.retain(|sent| {
-            stored.iter().any(|entry| {
-                entry.record_id == sent.record_id
-                    && entry.sender == sent.sender
-                    && entry.is_live_or_held()
-            })
-        });
+        let open = stored.iter().filter(|entry| entry.is_live_or_held());
+        let open: HashSet<(u64, u64)> = open.map(|entry| (entry.sender, entry.record_id)).collect();
+        self.sent.retain(|sent| open.contains(&(sent.sender, sent.record_id)));
     }
 }
 
@@ -250,13 +259,14 @@ fn with_moved_ids(file: &[u8], moved: u64, is_moved: impl Fn(&str) -> bool) -> V
     lines.iter().map(moved_line).collect::<Vec<_>>().join("\n").into_bytes()
 }
 
-/// A run of this length and any content: what no entry may hold, words at
-/// random, or the entries of another run, which may look like entries in use.
+/// A run of this length and any content: seldom zeros, else what no entry may
+/// hold, words at random, or the entries of another run, which may look like
+/// entries in use.
 pub fn any_run(random: &mut Random, length: usize, other: &[Entry]) -> Vec<Entry> {
-    match random.below(4) {
+    match random.below(10) {
         0 => vec![Entry::default(); length],
-        1 => vec![Entry { kind: 77, charge: i64::MIN, ..Entry::default() }; length],
-        2 => (0..length).map(|_| any_entry(random)).collect(),
+        1..=3 => vec![Entry { kind: 77, charge: i64::MIN, ..Entry::default() }; length],
+        4..=6 => (0..length).map(|_| any_entry(random)).collect(),
         _ => {
             let unused = Entry { state: 1, ..Entry::default() };
             (0..length).map(|place| other.get(place).copied().unwrap_or(unused)).collect()

@@ -1,0 +1,54 @@
+//! One side called so many times on one input, for a profiler.
+
+use crate::booking::{Booking, Bookings, Case};
+use crate::files::{Files, Ids};
+use crate::ledgers::Ledgers;
+use crate::reading::Reading;
+use crate::words::{BookingInWords, LedgerInWords};
+use crate::{proved_check, reference_check};
+use reference::ledger::MOST_ENTRIES;
+use std::hint::black_box;
+
+/// Calls one side so many times on one input.
+pub fn profile(side: &str, calls: usize) {
+    let file = || Files::new().many_sites(4_096, Ids::Rising);
+    let one_site = || Files::new().one_site(4_096, 1_000);
+    let ledger = |entries| LedgerInWords::new(Ledgers::new().full(entries));
+    let booking = || Bookings::new().periods(100, 8_000, MOST_ENTRIES);
+    let reading = |entries| Reading::new(Ledgers::new().full(entries), MOST_ENTRIES);
+    match side {
+        "proved-check" => repeat(calls, &file(), |file| proved_check(file)),
+        "reference-check" => repeat(calls, &file(), |file| reference_check(file)),
+        "proved-check-of-one-site" => repeat(calls, &one_site(), |file| proved_check(file)),
+        "reference-check-of-one-site" => repeat(calls, &one_site(), |file| reference_check(file)),
+        "proved-book" => repeat(calls, &booking(), restored(Booking::by_proved)),
+        "reference-book" => repeat(calls, &booking(), restored(Booking::by_reference)),
+        "proved-totals" => repeat(calls, &reading(8_000), Reading::totals_by_proved),
+        "reference-totals" => repeat(calls, &reading(8_000), Reading::totals_by_reference),
+        "proved-totals-of-100" => repeat(calls, &reading(100), Reading::totals_by_proved),
+        "reference-totals-of-100" => repeat(calls, &reading(100), Reading::totals_by_reference),
+        "proved-find" => repeat(calls, &reading(8_000), Reading::find_by_proved),
+        "reference-find" => repeat(calls, &reading(8_000), Reading::find_by_reference),
+        "proved-soundness" => repeat(calls, &ledger(8_192), LedgerInWords::sound_by_proved),
+        "reference-soundness" => repeat(calls, &ledger(8_192), LedgerInWords::sound_by_reference),
+        "proved-soundness-of-1000" => repeat(calls, &ledger(1_000), LedgerInWords::sound_by_proved),
+        "reference-soundness-of-1000" => repeat(calls, &ledger(1_000), LedgerInWords::sound_by_reference),
+        "proved-book-over-words" => repeat(calls, &BookingInWords::from(booking()), restored(BookingInWords::by_proved)),
+        _ => panic!("no side is called {side}"),
+    }
+}
+
+fn repeat<Input, Answer>(calls: usize, input: &Input, call: impl Fn(&Input) -> Answer) {
+    for _ in 0..calls {
+        black_box(call(black_box(input)));
+    }
+}
+
+/// A call after which its input is restored.
+fn restored<Input: Case>(call: impl Fn(&Input) -> u32) -> impl Fn(&Input) -> u32 {
+    move |input| {
+        let number = call(input);
+        input.restore();
+        number
+    }
+}
