@@ -1,12 +1,11 @@
-"""Writes the proofs of the functions of crate lent_booking that book into a lent run: the lemmas of the covered callees, the walk of the function with lent words,
-the lemma of that function as a callee, and the walk of the function of crate intake that a host calls. tools/walks.sh runs it."""
+"""The proofs of the functions of crate lent_booking that book into a lent run: the lemmas of the covered callees, the walk of the function with lent words,
+the lemma of that function as a callee, and the walk of the function of crate intake that a host calls."""
 
 from walk_text import *
 
 CRATE = "lent_booking"
 HERE = f"Rattle.{CRATE}.proofs."
-SPECS = f"""use Rattle.booking.specs.Booking.{{Input, bookResult, runAfter}}
-use Rattle.book.specs.Book.{{inputOf}}
+SPECS = f"""use Rattle.booking.specs.Booking.{{Input, inputOf, bookResult, runAfter}}
 use Rattle.{CRATE}.specs.declared.BookReply.{{BookReply}}
 use Rattle.{CRATE}.specs.Replies.{{bookReply, HostBooked, writtenTo, writtenFrom}}
 use {HERE}BookReply as R
@@ -678,8 +677,10 @@ module _ {GIVEN} (W : Given 𝓤 H A) {RUNNING}
     )
 
 
-write(CRATE, "BookReplyCalled.antt", core_called())
-write(CRATE, "WrittenCalled.antt", written_called())
-write(CRATE, "BookInCalled.antt", inner_called())
-write(CRATE, os.path.join("book_in", "Proof.antt"), inner_walk())
-write(HOST, os.path.join("intake_book", "Proof.antt"), host_walk())
+def proofs():
+    """Of each file of proofs its crate, its place and its text."""
+    yield CRATE, "BookReplyCalled.antt", core_called()
+    yield CRATE, "WrittenCalled.antt", written_called()
+    yield CRATE, "BookInCalled.antt", inner_called()
+    yield CRATE, "book_in/Proof.antt", inner_walk()
+    yield HOST, "intake_book/Proof.antt", host_walk()

@@ -1,5 +1,5 @@
-"""Writes the proofs of the functions of crate lent_ledger that read a lent run: for each operation the lemma of its covered callee, the walk of the function
-with lent words, the lemma of that function as a callee, and the walk of the function of crate intake that a host calls. tools/walks.sh runs it."""
+"""The proofs of the functions of crate lent_ledger that read a lent run: for each operation the lemma of its covered callee, the walk of the function
+with lent words, the lemma of that function as a callee, and the walk of the function of crate intake that a host calls."""
 
 from walk_text import *
 
@@ -494,8 +494,13 @@ module _ {GIVEN} (W : Given 𝓤 H A) {RUNNING}
     )
 
 
-for o in (Operation("totals", "TotalsReply", "totalsResult", "totals-loaded", []), Operation("find", "FindReply", "findResult", "find-loaded", ["site", "day"])):
-    write(CRATE, camel(o.callee) + "Called.antt", core_called(o))
-    write(CRATE, camel(o.inner) + "Called.antt", inner_called(o))
-    write(CRATE, os.path.join(o.inner, "Proof.antt"), inner_walk(o))
-    write(HOST, os.path.join(o.host, "Proof.antt"), host_walk(o))
+OPERATIONS = (Operation("totals", "TotalsReply", "totalsResult", "totals-loaded", []), Operation("find", "FindReply", "findResult", "find-loaded", ["site", "day"]))
+
+
+def proofs():
+    """Of each file of proofs its crate, its place and its text."""
+    for o in OPERATIONS:
+        yield CRATE, camel(o.callee) + "Called.antt", core_called(o)
+        yield CRATE, camel(o.inner) + "Called.antt", inner_called(o)
+        yield CRATE, o.inner + "/Proof.antt", inner_walk(o)
+        yield HOST, o.host + "/Proof.antt", host_walk(o)

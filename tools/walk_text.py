@@ -1,7 +1,5 @@
 """What the proofs of functions over a lent run have in common: the text of their `use` lines, of the locals and of the places where they stand in a walk's
-context. readers.py and booking.py write the proofs of crates lent_ledger and lent_booking with it."""
-
-import os
+context. readers.py and booking.py make the proofs of crates lent_ledger, lent_booking and intake with it, and walks.py writes them."""
 
 # how many entries the words of a small and of a large ledger have room for
 SIZES = (1024, 8192)
@@ -236,10 +234,3 @@ unfolding code.routine tablesOf
     (this-meets 𝓤 H (𝓖 .A) (givenOf 𝓤 H 𝓜 𝓖) (𝓜 .mem) (𝓡 .run) (tablesOf 𝓤 H 𝓜 (tables 𝓤 H 𝓜 𝓡 code.env))
     {(chr(10) + '    ').join(f"(cited 𝓤 H ({con} 𝓤 H (𝓖 .A) (𝓜 .mem) (𝓡 .run)) 𝓜 𝓡 code.env #{c} {c}-def.routine code.calls-{crate}·{c} ({c}-thm.met 𝓤 H 𝓜 𝓖 𝓡))" for c, con, crate in cites)})
 """
-
-
-def write(crate, path, text):
-    path = os.path.join("crates", crate, "proofs", path)
-    os.makedirs(os.path.dirname(path), exist_ok=True)
-    with open(path, "w", encoding="utf-8") as f:
-        f.write(text)

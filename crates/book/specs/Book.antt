@@ -15,9 +15,6 @@ use Rattle.booking.specs.declared.Answer.{Answer}
 use Rattle.booking.specs.Booking.{Input, resultOf, Booked}
 use Rattle.file_bills.specs.Reading.{BillRoom}
 
-abbrev pub inputOf : ℕ → List ℕ → List ℕ → List Entry → ℕ → Input
-inputOf retailer distributors file run used = record { settings = record { retailer = retailer; distributors = distributors }; file = file; run = run; used = used }
-
 -- what Book is to meet; the used count afterwards is the one before and the entries added
 abbrev pub Meets : Input → Answer → List Entry → Type 0
 Meets i answer run′ = Booked i answer run′ (i .used + resultOf answer .added)

@@ -3,8 +3,7 @@ ghost use mathlib.Core.Path.{_≡_};
 ghost use mathlib.Core.Bool.{cond};
 ghost use Rattle.entries.specs.Words.{entriesOf};
 ghost use Rattle.booking.specs.declared.Answer.the-variants.{Refused};
-ghost use Rattle.booking.specs.Booking.{resultOf, bookResult, runAfter};
-ghost use Rattle.book.specs.Book.{inputOf};
+ghost use Rattle.booking.specs.Booking.{inputOf, resultOf, bookResult, runAfter};
 ghost use Rattle.book_comparison.specs.Answers.{hasRunRoom, halves, quarters, bookAnswer};
 use booking::Answer;
 

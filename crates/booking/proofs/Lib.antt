@@ -2,6 +2,7 @@ pub mod Acceptance
 pub mod AcceptedFile
 pub mod Accepting
 pub mod Added
+pub mod Archive
 pub mod Desk
 pub mod Guarantee
 pub mod Kept

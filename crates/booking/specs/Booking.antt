@@ -197,6 +197,9 @@ pub record Input : Type 0 where
   pub run : List Entry
   pub used : ℕ
 
+abbrev pub inputOf : ℕ → List ℕ → List ℕ → List Entry → ℕ → Input
+inputOf retailer distributors file run used = record { settings = record { retailer = retailer; distributors = distributors }; file = file; run = run; used = used }
+
 -- what its file says, and the used entries
 abbrev pub fileOf : Input → BillFile
 fileOf i = billFile (linesOf (i .file))

@@ -1,5 +1,6 @@
 pub mod Acceptable
 pub mod Booking
+pub mod Calls
 pub mod Guarantee
 pub mod Kept
 pub mod Passes

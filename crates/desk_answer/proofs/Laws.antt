@@ -17,9 +17,8 @@ use Rattle.entries.proofs.Room.{room-zeros}
 use Rattle.entries.proofs.Words.{length-entries}
 use Rattle.soundness.specs.Room.{LedgerRoom}
 use Rattle.soundness.specs.Sound.{sizesFit}
-use Rattle.booking.specs.Booking.{Result, refusedResult, bookResult}
+use Rattle.booking.specs.Booking.{inputOf, Result, refusedResult, bookResult}
 use Rattle.booking.proofs.Lent.{same-result}
-use Rattle.book.specs.Book.{inputOf}
 use Rattle.desk_answer.specs.Desk.{deskResult}
 
 pub desk-room : LedgerRoom 512 512 (replicate (wordsFor 512) 0) (replicate (amountsFor 512) (pos 0))

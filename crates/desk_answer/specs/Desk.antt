@@ -8,8 +8,7 @@ use lib.Dec.{ltb}
 use lib.ListN.{length, replicate}
 use Rattle.lists.specs.Written.{written}
 use Rattle.entries.specs.Entries.{blank}
-use Rattle.booking.specs.Booking.{Result, refusedResult, bookResult}
-use Rattle.book.specs.Book.{inputOf}
+use Rattle.booking.specs.Booking.{inputOf, Result, refusedResult, bookResult}
 
 unfoldable pub deskResult : List ℕ → Result
 deskResult input =

@@ -15,10 +15,9 @@ use Rattle.entries.proofs.Words.{length-entries}
 use Rattle.soundness.specs.Sound.{sizesFit}
 use Rattle.soundness.specs.Room.{LedgerRoom}
 use Rattle.booking.specs.declared.Answer.{Answer}
-use Rattle.booking.specs.Booking.{Input, fileOf, ledgerOf, isBooked, ledgerAfter, resultOf, usedAfter}
+use Rattle.booking.specs.Booking.{Input, inputOf, fileOf, ledgerOf, isBooked, ledgerAfter, resultOf, usedAfter}
 use Rattle.booking.proofs.Accepting.{accepted-unrefused}
 use Rattle.booking.proofs.Added.{length-booked}
-use Rattle.book.specs.Book.{inputOf}
 use Rattle.book.specs.Calls.{Books}
 
 pub room-read : {words : List ℕ} {amounts : List ℤ} (places used : ℕ) → RoomFor used words amounts → LedgerRoom places used words amounts

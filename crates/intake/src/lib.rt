@@ -5,7 +5,7 @@ ghost use Rattle.calendar.specs.Calendar.{dayOf};
 ghost use Rattle.codes.specs.Codes.{codeOf};
 ghost use Rattle.refusals.specs.Check.{checkOf};
 ghost use Rattle.ledger.specs.Ledger.{totalsResult, findResult};
-ghost use Rattle.book.specs.Book.{inputOf};
+ghost use Rattle.booking.specs.Booking.{inputOf};
 ghost use Rattle.lent_ledger.specs.Replies.{totalsReply, findReply};
 ghost use Rattle.lent_booking.specs.Replies.{HostBooked};
 ghost use Rattle.intake.specs.Answers.{packed, checkAnswer, dayAnswer, codeAnswer};

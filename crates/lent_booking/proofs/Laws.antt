@@ -26,13 +26,12 @@ use Rattle.entries.proofs.Room.{room-fewer}
 use Rattle.soundness.specs.Sound.{isSound, sizesFit}
 use Rattle.soundness.specs.Room.{readCount}
 use Rattle.soundness.proofs.Sizes.{sizes-mean}
-use Rattle.booking.specs.Booking.{Input, Result, fileOf, ledgerOf, cancels, originals, fileEntry, entry, booked, bookRefusal, isBooked, ledgerAfter, addedBy, refusedResult, acceptedResult, resultOf, bookResult, usedAfter, runAfter, Booked}
+use Rattle.booking.specs.Booking.{Input, inputOf, Result, fileOf, ledgerOf, cancels, originals, fileEntry, entry, booked, bookRefusal, isBooked, ledgerAfter, addedBy, refusedResult, acceptedResult, resultOf, bookResult, usedAfter, runAfter, Booked}
 use Rattle.booking.proofs.Added.{cancelAll, cancelEntries, originalEntries, booked-parts, length-cancel-all, length-booked, added-count}
 use Rattle.booking.proofs.Accepting.{accepted-unrefused}
 use Rattle.booking.proofs.AcceptedFile.{accepted-passes}
 use Rattle.booking.proofs.Lent.{same-result, unsound-same, unsound-result}
 use Rattle.booking.proofs.Steps.{refused-leaves, used-accepted, run-accepted, used-entries-after}
-use Rattle.book.specs.Book.{inputOf}
 use Rattle.runs.specs.Copies.{placed}
 use Rattle.runs.proofs.Laws.{read-le, read-cap}
 use Rattle.runs.proofs.Sound.{loaded-cases}

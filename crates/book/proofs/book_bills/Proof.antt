@@ -12,10 +12,9 @@ use Rattle.entries.specs.declared.Entry.{Entry}
 use Rattle.entries.specs.Words.{entriesOf}
 use Rattle.entries.proofs.Words.{length-entries, take-entries}
 use Rattle.entries.proofs.Room.{room-fewer}
-use Rattle.booking.specs.Booking.{Input}
+use Rattle.booking.specs.Booking.{Input, inputOf}
 use Rattle.file_bills.specs.Bills.{fileIn}
 use Rattle.ledger_tests.specs.Tests.{Named}
-use Rattle.book.specs.Book.{inputOf}
 use Rattle.book.proofs.Answers.{refuses, accepts}
 use Rattle.book.proofs.Refusing.{ledgerTests, refused-ledger}
 use Rattle.book.proofs.Rooms.{same-tests}

@@ -8,8 +8,7 @@ use lib.ListN.{length, length-replicate}
 use Rattle.text.specs.Text.{linesOf, Placed, LinesFound}
 use Rattle.validation.proofs.Limits.{too-many-lines, within-limits}
 use Rattle.entries.specs.Words.{entriesOf}
-use Rattle.booking.specs.Booking.{Input}
-use Rattle.book.specs.Book.{inputOf}
+use Rattle.booking.specs.Booking.{Input, inputOf}
 use Rattle.book.proofs.Answers.{refuses}
 use Rattle.book.proofs.Refusing.{refused-103}
 use borrow.Author.Needs.{needs}

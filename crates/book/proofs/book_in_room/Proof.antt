@@ -4,8 +4,7 @@ use mathlib.Core.Path.{_≡_, sym, ap, _∙_}
 use denote.Ref.{now}
 use Rattle.refusals.specs.declared.Outcome.{Outcome}
 use Rattle.entries.specs.Words.{entriesOf}
-use Rattle.booking.specs.Booking.{Input}
-use Rattle.book.specs.Book.{inputOf}
+use Rattle.booking.specs.Booking.{Input, inputOf}
 use Rattle.book.proofs.Answers.{refuses}
 use Rattle.book.proofs.Refusing.{refused-tests}
 use Rattle.book.proofs.Rooms.{run-sizes}

@@ -48,8 +48,7 @@ use Rattle.soundness.specs.Room.{readCount}
 use Rattle.runs.proofs.Laws.{read-cap, read-below, has-room}
 use Rattle.runs.proofs.Local.{big-lit, local-typed, local-lent, local-lends, local-back}
 use Rattle.runs.proofs.Turn.{tyAt}
-use Rattle.booking.specs.Booking.{Input, bookResult, runAfter}
-use Rattle.book.specs.Book.{inputOf}
+use Rattle.booking.specs.Booking.{Input, inputOf, bookResult, runAfter}
 use Rattle.lent_booking.specs.declared.BookReply.{BookReply}
 use Rattle.lent_booking.specs.Replies.{bookReply, HostBooked, writtenTo, writtenFrom}
 use Rattle.lent_booking.proofs.BookReply as R
@@ -155,7 +154,7 @@ module _ {M : Type 1} (𝓤 : URA M) (H : Heap 𝓤) (A : Atoms 𝓤) (W : Given
     walk : ent 𝓤 (onEntry 𝓤 H A this.signature (κd, (κf, (κ₀, tt))) (qd, (qf, (q₀, tt))) a at) (WpFn 𝓤 H C Λ code.function vs Post)
     walk =
         qed W ((‵ (flft κd qd) ⊛ ‵ (flft κf qf) ⊛ ‵ (flft κ₀ q₀) ⊛ ‵ ftrue) ∷ ‵ (owns (u64 ∷ ShrSlice (named 0) κd u8 ∷ ShrSlice (named 1) κf u8 ∷ MutSlice (named 2) κ₀ T.the-row ∷ usize ∷ []) a at) ∷ []) ∵
-        split ! $ move ! (1 ∷ []) $ split ! $ move ! (1 ∷ []) $ split ! $ move ! (4 ∷ []) $ fsplit ! $ move ! (1 ∷ []) $ fsplit ! $ move ! (1 ∷ []) $ fsplit ! $ move ! (1 ∷ []) $ fsplit ! $ move ! (1 ∷ []) $ fsplit ! $ 
+        split ! $ move ! (1 ∷ []) $ split ! $ move ! (1 ∷ []) $ split ! $ move ! (4 ∷ []) $ fsplit ! $ move ! (1 ∷ []) $ fsplit ! $ move ! (1 ∷ []) $ fsplit ! $ move ! (1 ∷ []) $ fsplit ! $ move ! (1 ∷ []) $ fsplit ! $
         -- [used; true; the run; the file; the distributors; the retailer; κ₀'s token; true; κf's token; κd's token]
         keep ! (4 ∷ 3 ∷ 9 ∷ 8 ∷ 2 ∷ 6 ∷ []) $ group ! 4 $ move ! (1 ∷ 2 ∷ []) $ join ! $ enter ! C Λ code.function vs _ $
         alloc1 ! (λ l₀. alloc1 ! (λ l₁. alloc1 ! (λ l₂. alloc1 ! (λ l₃. alloc1 ! (λ l₄. alloc1 ! (λ l₅. alloc1 ! (λ l₆. alloc1 ! (λ l₇. alloc1 ! (λ l₈. alloc1 ! (λ l₉. alloc1 ! (λ l₁₀. alloc1 ! (λ l₁₁. alloc1 ! (λ l₁₂. alloc1 ! (λ l₁₃. alloc1 ! (λ l₁₄. alloc1 ! (λ l₁₅. alloc1 ! (λ l₁₆. alloc1 ! (λ l₁₇. alloc1 ! (λ l₁₈. alloc1 ! (λ l₁₉. alloc1 ! (λ l₂₀. alloc1 ! (λ l₂₁. alloc1 ! (λ l₂₂. alloc1 ! (λ l₂₃. alloc0 ! $ params1 ! $

@@ -57,8 +57,7 @@ use Rattle.runs.proofs.load.Met as load-thm
 use Rattle.runs.proofs.store.Symbol as store-def
 use Rattle.runs.proofs.store.Symbol.{name as #store}
 use Rattle.runs.proofs.store.Met as store-thm
-use Rattle.booking.specs.Booking.{Input, bookResult, runAfter}
-use Rattle.book.specs.Book.{inputOf}
+use Rattle.booking.specs.Booking.{Input, inputOf, bookResult, runAfter}
 use Rattle.lent_booking.specs.declared.BookReply.{BookReply}
 use Rattle.lent_booking.specs.Replies.{bookReply, HostBooked, writtenTo, writtenFrom}
 use Rattle.lent_booking.proofs.BookReply as R
@@ -183,7 +182,7 @@ module _ {M : Type 1} (𝓤 : URA M) (H : Heap 𝓤) (A : Atoms 𝓤) (W : Given
     walk : ent 𝓤 (onEntry 𝓤 H A this.signature (κd, (κf, (κ₀, (κ₁, (κ₂, tt))))) (qd, (qf, (q₀, (q₁, (q₂, tt))))) a at) (WpFn 𝓤 H C Λ code.function vs Post)
     walk =
         qed W ((‵ (flft κd qd) ⊛ ‵ (flft κf qf) ⊛ ‵ (flft κ₀ q₀) ⊛ ‵ (flft κ₁ q₁) ⊛ ‵ (flft κ₂ q₂) ⊛ ‵ ftrue) ∷ ‵ (owns (u64 ∷ ShrSlice (named 0) κd u8 ∷ ShrSlice (named 1) κf u8 ∷ MutSlice (named 2) κ₀ T.the-row ∷ usize ∷ MutSlice (named 3) κ₁ u64 ∷ MutSlice (named 4) κ₂ i64 ∷ []) a at) ∷ []) ∵
-        split ! $ move ! (1 ∷ []) $ split ! $ move ! (1 ∷ []) $ split ! $ move ! (1 ∷ []) $ split ! $ move ! (1 ∷ []) $ split ! $ move ! (6 ∷ []) $ fsplit ! $ move ! (1 ∷ []) $ fsplit ! $ move ! (1 ∷ []) $ fsplit ! $ move ! (1 ∷ []) $ fsplit ! $ move ! (1 ∷ []) $ fsplit ! $ move ! (1 ∷ []) $ fsplit ! $ move ! (1 ∷ []) $ fsplit ! $ 
+        split ! $ move ! (1 ∷ []) $ split ! $ move ! (1 ∷ []) $ split ! $ move ! (1 ∷ []) $ split ! $ move ! (1 ∷ []) $ split ! $ move ! (6 ∷ []) $ fsplit ! $ move ! (1 ∷ []) $ fsplit ! $ move ! (1 ∷ []) $ fsplit ! $ move ! (1 ∷ []) $ fsplit ! $ move ! (1 ∷ []) $ fsplit ! $ move ! (1 ∷ []) $ fsplit ! $ move ! (1 ∷ []) $ fsplit ! $
         -- [the amounts; true; the words; used; the run; the file; the distributors; the retailer; κ₂'s token; true; κ₁'s token; κ₀'s token; κf's token; κd's token]
         keep ! (6 ∷ 5 ∷ 13 ∷ 12 ∷ 2 ∷ 0 ∷ 10 ∷ 8 ∷ 4 ∷ 11 ∷ []) $ group ! 4 $ move ! (1 ∷ 2 ∷ 3 ∷ 4 ∷ []) $ group ! 4 $ enter ! C Λ code.function vs _ $
         alloc1 ! (λ l₀. alloc1 ! (λ l₁. alloc1 ! (λ l₂. alloc1 ! (λ l₃. alloc1 ! (λ l₄. alloc1 ! (λ l₅. alloc1 ! (λ l₆. alloc1 ! (λ l₇. alloc1 ! (λ l₈. alloc1 ! (λ l₉. alloc1 ! (λ l₁₀. alloc1 ! (λ l₁₁. alloc1 ! (λ l₁₂. alloc1 ! (λ l₁₃. alloc1 ! (λ l₁₄. alloc1 ! (λ l₁₅. alloc1 ! (λ l₁₆. alloc1 ! (λ l₁₇. alloc1 ! (λ l₁₈. alloc1 ! (λ l₁₉. alloc1 ! (λ l₂₀. alloc1 ! (λ l₂₁. alloc1 ! (λ l₂₂. alloc1 ! (λ l₂₃. alloc1 ! (λ l₂₄. alloc1 ! (λ l₂₅. alloc1 ! (λ l₂₆. alloc1 ! (λ l₂₇. alloc1 ! (λ l₂₈. alloc1 ! (λ l₂₉. alloc1 ! (λ l₃₀. alloc1 ! (λ l₃₁. alloc1 ! (λ l₃₂. alloc0 ! $ params1 ! $
