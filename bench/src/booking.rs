@@ -15,26 +15,14 @@ use std::cell::RefCell;
 /// How many periods a file has between its header, its one site header and its trailer.
 const PERIODS_OF_ONE_SITE: usize = MOST_LINES - 3;
 
-/// An input that either side is called on, and that is restored after each call.
-pub trait Case {
-    /// The number of the proved function's answer, 0 where the file is accepted.
-    fn by_proved(&self) -> u32;
-
-    /// The same of the reference implementation.
-    fn by_reference(&self) -> u32;
-
-    /// Makes the ledger as it was before a call.
-    fn restore(&self);
-}
-
 /// A ledger and a file. Both sides are lent the same run.
 pub struct Booking {
     distributors: Vec<u8>,
-    pub file: Vec<u8>,
-    pub used: usize,
-    pub run: RefCell<Vec<Entry>>,
+    file: Vec<u8>,
+    used: usize,
+    run: RefCell<Vec<Entry>>,
     /// The places that a call changes, and the entries that they have before it.
-    pub changed: Vec<(usize, Entry)>,
+    changed: Vec<(usize, Entry)>,
 }
 
 impl Booking {
@@ -51,30 +39,27 @@ impl Booking {
         booking
     }
 
-    pub fn settings(&self) -> Settings<'_> {
-        Settings { retailer: RETAILER, distributors: &self.distributors }
-    }
-}
-
-impl Case for Booking {
-    fn by_proved(&self) -> u32 {
+    /// The number of the proved function's answer, 0 where the file is accepted.
+    pub fn by_proved(&self) -> u32 {
         let mut run = self.run.borrow_mut();
         let places = run.len();
-        number_of(proved::book(&mut run, places, self.used, self.settings(), &self.file))
+        let settings = Settings { retailer: RETAILER, distributors: &self.distributors };
+        number_of(proved::book(&mut run, places, self.used, settings, &self.file))
     }
 
-    fn by_reference(&self) -> u32 {
+    /// The same of the reference implementation.
+    pub fn by_reference(&self) -> u32 {
         number_of(book(RETAILER, &self.distributors, &self.file, &mut self.run.borrow_mut(), self.used))
     }
 
-    fn restore(&self) {
+    /// Makes the ledger as it was before a call.
+    pub fn restore(&self) {
         let mut run = self.run.borrow_mut();
         self.changed.iter().for_each(|(place, entry)| run[*place] = *entry);
     }
 }
 
-/// The number of an answer, 0 where the file is accepted.
-pub fn number_of(answer: Answer) -> u32 {
+fn number_of(answer: Answer) -> u32 {
     match answer {
         Answer::Booked { .. } => 0,
         Answer::Refused(refusal) => refusal.number,

@@ -1,4 +1,4 @@
-//! The ledgers that soundness is timed on: sound ones, some of them made to hurt, and one with an entry at fault.
+//! The ledgers that Book, Totals and Find are timed on: sound ones, some of them made to hurt, and one with an entry at fault.
 
 use reference::bill::Commodity;
 use reference::file::RecordType;

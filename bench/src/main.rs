@@ -1,16 +1,14 @@
 //! Check, Book, Totals and Find, the proved functions beside the reference implementation.
 //!
 //! `cargo run --release --offline` times both sides in one run: medians of 11, each on a fresh input, and their ratios.
-//! `cargo run --release --offline -- ledger` times Book, Totals and Find alone, and `cargo run --release --offline -- words` what they
-//! are made upon: soundness and Book over a ledger in words.
+//! `cargo run --release --offline -- ledger` times Book, Totals and Find alone.
 //!
 //! `cargo run --release --offline -- profile SIDE N` calls one side N times on one input and prints nothing, for a profiler. SIDE
 //! is `proved-check` or `reference-check` (a file of 4,096 lines and many sites), one of these two with `-of-one-site` at its end,
 //! `proved-book` or `reference-book` (100 periods into 8,000 entries), `proved-totals`, `reference-totals`, `proved-find` or
-//! `reference-find` (8,000 entries), one of the first two of these with `-of-100` at its end (100 entries), or over words
-//! `proved-soundness` or `reference-soundness` (8,192 entries), one of these two with `-of-1000` at its end (1,000 entries), or
-//! `proved-book-over-words`. The instructions of a call are those of N = 11 without those of N = 1, divided by 10:
-//! `valgrind --tool=callgrind target/release/bench profile reference-check 11`.
+//! `reference-find` (8,000 entries), or one of the first two of these with `-of-100` at its end (100 entries). The instructions of a
+//! call are those of N = 11 without those of N = 1, divided by 10: `valgrind --tool=callgrind target/release/bench profile
+//! reference-check 11`.
 
 mod booking;
 mod files;
@@ -20,9 +18,8 @@ mod longest;
 mod profile;
 mod reading;
 mod timing;
-mod words;
 
-use booking::{Booking, Bookings, Case};
+use booking::{Booking, Bookings};
 use compare::proved;
 use files::{Files, Ids};
 use hurt::LATE_FAILURES;
@@ -33,13 +30,10 @@ use reference::file::RecordType;
 use reference::generate::RETAILER;
 use reference::ledger::{Entry, MOST_ENTRIES};
 use timing::{medians, medians_of_kinds, medians_of_restored_kinds, report, report_growth, Medians};
-use words::{BookingInWords, LedgerInWords};
 
 const DISTRIBUTORS: &[u8] = b"0040";
 
 const LINES: [usize; 3] = [256, 1_024, 4_096];
-
-const ENTRIES: [usize; 3] = [1_000, 4_000, 8_192];
 
 /// The entries in use of the ledgers that a file is booked into.
 const USED: [usize; 3] = [1_000, 4_000, 8_000];
@@ -115,32 +109,30 @@ fn report_checks() {
 }
 
 /// Times bookings that are accepted or that a number refuses.
-fn report_booking<Timed: Case + From<Booking>>(what: &str, number: u32, mut draw: impl FnMut() -> Booking) {
-    let [medians] = medians_of_restored_kinds(|_| draw().into(), number, Timed::restore, Timed::by_proved, Timed::by_reference);
-    report(what, &medians);
+fn report_booking(what: &str, number: u32, mut draw: impl FnMut() -> Booking) {
+    let [medians] = medians_of_restored_kinds(|_| draw(), number, Booking::restore, Booking::by_proved, Booking::by_reference);
+    report(&format!("intake_book, {what}"), &medians);
 }
 
 /// Times bookings of some periods into ledgers of three sizes, in runs of so many places.
-fn report_periods<Timed: Case + From<Booking>>(book: &str, bookings: &mut Bookings, periods: usize, used: [usize; 3], places: usize) {
-    let draw = |size: usize| bookings.periods(periods, used[size], places).into();
-    let sizes: [Medians; 3] = medians_of_restored_kinds(draw, 0, Timed::restore, Timed::by_proved, Timed::by_reference);
+fn report_periods(bookings: &mut Bookings, periods: usize, used: [usize; 3], places: usize) {
+    let draw = |size: usize| bookings.periods(periods, used[size], places);
+    let sizes: [Medians; 3] = medians_of_restored_kinds(draw, 0, Booking::restore, Booking::by_proved, Booking::by_reference);
     for (used, medians) in used.iter().zip(&sizes) {
-        report(&format!("{book}, {periods} periods into {used} entries of {places} places"), medians);
+        report(&format!("intake_book, {periods} periods into {used} entries of {places} places"), medians);
     }
     let [smallest, _, largest] = used;
-    report_growth(&format!("{book}, {periods} periods, from {smallest} to {largest} entries"), &sizes[0], &sizes[2]);
+    report_growth(&format!("intake_book, {periods} periods, from {smallest} to {largest} entries"), &sizes[0], &sizes[2]);
 }
 
-/// Times all bookings into runs as long as they may be.
-fn report_bookings<Timed: Case + From<Booking>>(book: &str) {
+fn report_bookings() {
     let mut bookings = Bookings::new();
-    report_periods::<Timed>(book, &mut bookings, 100, USED, MOST_ENTRIES);
-    report_booking::<Timed>(&format!("{book}, 4096 lines into an empty ledger"), 0, || bookings.most_lines());
-    report_booking::<Timed>(&format!("{book}, 1000 cancels into 4001 entries"), 0, || bookings.cancels(1_000, 3_000));
-    let what = format!("{book}, 1000 cancels into 4001 entries, refused by 39 at the last");
-    report_booking::<Timed>(&what, 39, || bookings.cancels_without_the_last(1_000, 3_000));
-    let what = format!("{book}, 4093 periods of one site into a ledger with as many of it");
-    report_booking::<Timed>(&what, 0, || bookings.one_site());
+    report_periods(&mut bookings, 100, USED, MOST_ENTRIES);
+    report_periods(&mut bookings, 20, SMALL_USED, SMALL_PLACES);
+    report_booking("4096 lines into an empty ledger", 0, || bookings.most_lines());
+    report_booking("1000 cancels into 4001 entries", 0, || bookings.cancels(1_000, 3_000));
+    report_booking("1000 cancels into 4001 entries, refused by 39 at the last", 39, || bookings.cancels_without_the_last(1_000, 3_000));
+    report_booking("4093 periods of one site into a ledger with as many of it", 0, || bookings.one_site());
 }
 
 /// Times Totals and Find of ledgers in runs of so many places.
@@ -170,31 +162,10 @@ fn report_hurt_totals() {
 
 /// Times the calls of the C interface that are lent a run.
 fn report_ledger() {
-    report_bookings::<Booking>("intake_book");
-    report_periods::<Booking>("intake_book", &mut Bookings::new(), 20, SMALL_USED, SMALL_PLACES);
+    report_bookings();
     report_readings(USED_AND_READ, MOST_ENTRIES);
     report_readings([100, 400], SMALL_PLACES);
     report_hurt_totals();
-}
-
-fn report_soundness() {
-    let mut ledgers = Ledgers::new();
-    let (proved, reference) = (LedgerInWords::sound_by_proved, LedgerInWords::sound_by_reference);
-    let sizes: [Medians; 3] = medians_of_kinds(|size| LedgerInWords::new(ledgers.full(ENTRIES[size])), true, proved, reference);
-    for (entries, medians) in ENTRIES.iter().zip(&sizes) {
-        report(&format!("soundness over words, {entries} entries"), medians);
-    }
-    report_growth("soundness over words, from 1000 to 8192 entries", &sizes[0], &sizes[2]);
-    let repeated = || LedgerInWords::new(ledgers.with_a_repeated_key(8_192));
-    report("soundness over words, 8192 entries, the last with a key of another", &medians(repeated, false, proved, reference));
-    let one_bucket = || LedgerInWords::new(ledgers.in_one_bucket(8_192));
-    report("soundness over words, 8192 entries, keys in one bucket", &medians(one_bucket, true, proved, reference));
-}
-
-/// Times what the calls that are lent a run are made upon.
-fn report_words() {
-    report_soundness();
-    report_bookings::<BookingInWords>("book over words");
 }
 
 fn main() {
@@ -205,11 +176,9 @@ fn main() {
             report_checks();
             report_hurt();
             report_ledger();
-            report_words();
         }
         ["ledger"] => report_ledger(),
-        ["words"] => report_words(),
         ["profile", side, calls] => profile::profile(side, calls.parse().expect("N is a number")),
-        _ => panic!("usage: bench [ledger | words | profile SIDE N]"),
+        _ => panic!("usage: bench [ledger | profile SIDE N]"),
     }
 }

@@ -1,10 +1,9 @@
 //! One side called so many times on one input, for a profiler.
 
-use crate::booking::{Booking, Bookings, Case};
+use crate::booking::{Booking, Bookings};
 use crate::files::{Files, Ids};
 use crate::ledgers::Ledgers;
 use crate::reading::Reading;
-use crate::words::{BookingInWords, LedgerInWords};
 use crate::{proved_check, reference_check};
 use reference::ledger::MOST_ENTRIES;
 use std::hint::black_box;
@@ -13,7 +12,6 @@ use std::hint::black_box;
 pub fn profile(side: &str, calls: usize) {
     let file = || Files::new().many_sites(4_096, Ids::Rising);
     let one_site = || Files::new().one_site(4_096, 1_000);
-    let ledger = |entries| LedgerInWords::new(Ledgers::new().full(entries));
     let booking = || Bookings::new().periods(100, 8_000, MOST_ENTRIES);
     let reading = |entries| Reading::new(Ledgers::new().full(entries), MOST_ENTRIES);
     match side {
@@ -29,11 +27,6 @@ pub fn profile(side: &str, calls: usize) {
         "reference-totals-of-100" => repeat(calls, &reading(100), Reading::totals_by_reference),
         "proved-find" => repeat(calls, &reading(8_000), Reading::find_by_proved),
         "reference-find" => repeat(calls, &reading(8_000), Reading::find_by_reference),
-        "proved-soundness" => repeat(calls, &ledger(8_192), LedgerInWords::sound_by_proved),
-        "reference-soundness" => repeat(calls, &ledger(8_192), LedgerInWords::sound_by_reference),
-        "proved-soundness-of-1000" => repeat(calls, &ledger(1_000), LedgerInWords::sound_by_proved),
-        "reference-soundness-of-1000" => repeat(calls, &ledger(1_000), LedgerInWords::sound_by_reference),
-        "proved-book-over-words" => repeat(calls, &BookingInWords::from(booking()), restored(BookingInWords::by_proved)),
         _ => panic!("no side is called {side}"),
     }
 }
@@ -45,10 +38,10 @@ fn repeat<Input, Answer>(calls: usize, input: &Input, call: impl Fn(&Input) -> A
 }
 
 /// A call after which its input is restored.
-fn restored<Input: Case>(call: impl Fn(&Input) -> u32) -> impl Fn(&Input) -> u32 {
-    move |input| {
-        let number = call(input);
-        input.restore();
+fn restored(call: impl Fn(&Booking) -> u32) -> impl Fn(&Booking) -> u32 {
+    move |booking| {
+        let number = call(booking);
+        booking.restore();
         number
     }
 }
