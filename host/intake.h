@@ -97,7 +97,7 @@ extern "C" {
 #define INTAKE_LAST_DAY 36524
 
 /* The bytes of stack that a call needs at most. */
-#define INTAKE_STACK (2 * 1024 * 1024)
+#define INTAKE_STACK (3 * 1024 * 1024)
 
 enum intake_commodity { INTAKE_EL = 1, INTAKE_NG = 2 };
 

@@ -18,7 +18,7 @@ use Rattle.booking.specs.declared.Answer.{Answer}
 use Rattle.booking.specs.Booking.{Input, inputOf, fileOf, ledgerOf, isBooked, ledgerAfter, resultOf, usedAfter}
 use Rattle.booking.proofs.Accepting.{accepted-unrefused}
 use Rattle.booking.proofs.Added.{length-booked}
-use Rattle.book.specs.Calls.{Books}
+use Rattle.book.specs.Book.{Meets}
 
 pub room-read : {words : List ℕ} {amounts : List ℤ} (places used : ℕ) → RoomFor used words amounts → LedgerRoom places used words amounts
 room-read {words} {amounts} places used room = go (sizesFit places used)
@@ -37,7 +37,7 @@ after-within i fits = go (isBooked i) refl
     go false e = fits
 
 pub used-within : (retailer : ℕ) (distributors file words : List ℕ) (amounts : List ℤ) (places used : ℕ) (answer : Answer) (words′ : List ℕ) (amounts′ : List ℤ)
-    → used ≤ places → Books retailer distributors file words amounts places used answer words′ amounts′ → used + resultOf answer .added ≤ places
+    → used ≤ places → Meets (inputOf retailer distributors file (entriesOf words amounts places) used) answer (entriesOf words′ amounts′ places) → used + resultOf answer .added ≤ places
 used-within retailer distributors file words amounts places used answer words′ amounts′ fits met =
     let long = length-entries words amounts places in
     let within = after-within (inputOf retailer distributors file (entriesOf words amounts places) used) (omega (arith, long, fits)) in
