@@ -191,8 +191,8 @@ uint64_t intake_check(uint64_t retailer, const uint8_t *distributors, size_t dis
  *
  * On an acceptance the file's entries are added from place `used` on: the file entry, then its cancels in file order, then its
  * originals in file order. Entries that its cancels name turn into state 3; other fields of used entries keep their values.
- * What is written lies between the first place that changes and place used + added - 1; all places from used + added on keep
- * their content. The host must then take used + added as the used count: the library doesn't keep it. */
+ * Any place before used + added may be written, most of them with what stood there; all places from used + added on keep their
+ * content. The host must then take used + added as the used count: the library doesn't keep it. */
 struct intake_booking intake_book(uint64_t retailer, const uint8_t *distributors, size_t distributors_len, const uint8_t *file, size_t file_len,
                                   struct intake_entry *run, size_t places, size_t used);
 

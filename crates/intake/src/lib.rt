@@ -8,9 +8,7 @@ ghost use Rattle.ledger.specs.Ledger.{totalsResult, findResult};
 ghost use Rattle.booking.specs.Booking.{inputOf};
 ghost use Rattle.lent_ledger.specs.Replies.{totalsReply, findReply};
 ghost use Rattle.lent_booking.specs.Replies.{HostBooked};
-ghost use Rattle.intake.specs.Answers.{packed, checkAnswer, dayAnswer, codeAnswer};
-use calendar::Day;
-use codes::RejectionCode;
+ghost use Rattle.packed_answers.specs.Answers.{packed, checkAnswer, dayAnswer, codeAnswer};
 use entries::Entry;
 use lent_booking::BookReply;
 use lent_ledger::FindReply;
@@ -21,8 +19,7 @@ use lent_ledger::TotalsReply;
 pub extern "C" fn intake_check(retailer: u64, distributors: &[u8], file: &[u8]) -> u64
     ensures { λ r. ⌜ r ≡ packed (checkAnswer (checkOf retailer (now (distributors .entry)) (now (file .entry)))) ⌝ }
 {
-    let outcome = validation::check(retailer, distributors, file);
-    outcome.number * 4294967296 + outcome.line
+    packed_answers::check(retailer, distributors, file)
 }
 
 // The day of a date; 3 if it isn't one.
@@ -30,10 +27,7 @@ pub extern "C" fn intake_check(retailer: u64, distributors: &[u8], file: &[u8]) 
 pub extern "C" fn intake_day(date: &[u8]) -> u64
     ensures { λ r. ⌜ r ≡ packed (dayAnswer (dayOf (now (date .entry)))) ⌝ }
 {
-    match dates::day_of(date) {
-        Day::At(day) => day,
-        Day::NotADate => 3 * 4294967296,
-    }
+    packed_answers::day(date)
 }
 
 // The rejection code of a test; 107 if it isn't one of Table 5-1 that document 01 lists.
@@ -41,10 +35,7 @@ pub extern "C" fn intake_day(date: &[u8]) -> u64
 pub extern "C" fn intake_code(test: u64) -> u64
     ensures { λ r. ⌜ r ≡ packed (codeAnswer (codeOf test)) ⌝ }
 {
-    match codes::code_of(test) {
-        RejectionCode::Code(code) => code,
-        RejectionCode::NotATest => 107 * 4294967296,
-    }
+    packed_answers::code(test)
 }
 
 // Book: refusals in document 01's order, which leave the run as it was lent; else the entries. The used count afterwards is the one before and the entries added. A

@@ -1,9 +1,9 @@
--- `intake::intake_code` meets its contract: it packs the answers of `codes::code_of`.
+-- `packed_answers::code` meets its contract: it packs the answers of `codes::code_of`.
 -- Assumes nothing.
 use borrow.Author.Needs.{needs}
 use native.Mathlib.Omega.{arith}
-use Rattle.intake.proofs.intake_code.Statement.{statement}
-use Rattle.intake.proofs.intake_code.Tie as tie
+use Rattle.packed_answers.proofs.code.Statement.{statement}
+use Rattle.packed_answers.proofs.code.Tie as tie
 
 code-of-requires : tie.Need-code-of-requires
 code-of-requires c κs = search needs
@@ -23,6 +23,6 @@ returns c = simp (← c .before .before .before .code-of .ensures, c .before .co
 returns-2 : tie.Need-returns-2
 returns-2 c = simp (← c .before .before .code-of .ensures, c .enum-told .given .1)
 
-pub intake-code-spec : {M : Type 1} → statement M
-intake-code-spec =
+pub code-spec : {M : Type 1} → statement M
+code-spec =
     tie.close (tie.spec code-of-requires enum-known-code enum-told mul-result returns returns-2)

@@ -1,9 +1,9 @@
--- `intake::intake_day` meets its contract: it packs the answers of `dates::day_of`.
+-- `packed_answers::day` meets its contract: it packs the answers of `dates::day_of`.
 -- Assumes nothing.
 use borrow.Author.Needs.{needs}
 use native.Mathlib.Omega.{arith}
-use Rattle.intake.proofs.intake_day.Statement.{statement}
-use Rattle.intake.proofs.intake_day.Tie as tie
+use Rattle.packed_answers.proofs.day.Statement.{statement}
+use Rattle.packed_answers.proofs.day.Tie as tie
 
 day-of-requires : tie.Need-day-of-requires
 day-of-requires c κs = search needs
@@ -23,6 +23,6 @@ returns c = simp (← c .before .before .before .day-of .ensures, c .before .day
 returns-2 : tie.Need-returns-2
 returns-2 c = simp (← c .before .before .day-of .ensures, c .enum-told .given .1)
 
-pub intake-day-spec : {M : Type 1} → statement M
-intake-day-spec =
+pub day-spec : {M : Type 1} → statement M
+day-spec =
     tie.close (tie.spec day-of-requires enum-known-day enum-told mul-result returns returns-2)

@@ -1,6 +1,6 @@
 -- Laws of the word in which the host gets an answer: its upper 32 bits are the number, its lower 32 bits the value.
 --     packed-number, packed-value    the two halves of the word, for a value that fits
---     check-fits, day-fits, code-fits    the values that the exported functions answer fit
+--     check-fits, day-fits, code-fits    the values that the functions answer fit
 -- Assumes nothing.
 use mathlib.Core.Path.{_≡_, refl}
 use mathlib.Core.List.{List}
@@ -16,7 +16,7 @@ use Rattle.codes.specs.Codes.{codeOf}
 use Rattle.codes.proofs.Laws.{code-range}
 use Rattle.refusals.specs.Check.{checkOf}
 use Rattle.refusals.proofs.Outcomes.{check-small}
-use Rattle.intake.specs.Answers.{Answer, packed, checkAnswer, dayAnswer, codeAnswer}
+use Rattle.packed_answers.specs.Answers.{Answer, packed, checkAnswer, dayAnswer, codeAnswer}
 
 module _ (a : Answer) (fits : a .value < 2 ^ 32) where
   pub packed-number : packed a / 2 ^ 32 ≡ a .number
