@@ -424,7 +424,7 @@ stayed = {nest(['stay-none-slice (0 ∷ []) tt (plain (λ _. T.the-row)) yes'] +
 abbrev τ : ℕ → Ty
 τ k = tyAt (code.function .locals) k
 
-{rooms()}
+{rooms(SIZES)}
 
 module _ {GIVEN} (W : Given 𝓤 H A) {RUNNING}
     (κ₀ : Lft) (q₀ : Share) (r : RefT (List Entry)) ({' '.join(ps)} : ℕ) where

@@ -1,9 +1,10 @@
 """What the proofs of functions over a lent run have in common: the text of their `use` lines, of the locals and of the places where they stand in a walk's
 context. readers.py and booking.py make the proofs of crates lent_ledger, lent_booking and intake with it, and walks.py writes them."""
 
-# how many entries the words of a small and of a large ledger have room for
+# how many entries the words have room for: of Totals and Find, and of Book
 SIZES = (1024, 8192)
-ROOM = {n: (9 * n, 2 * n) for n in SIZES}
+BOOK_SIZES = (2048, 5120, 8192)
+ROOM = {n: (9 * n, 2 * n) for n in SIZES + BOOK_SIZES}
 
 
 def sub(n):
@@ -154,10 +155,10 @@ def frees(n, front, apart):
     return " $ ".join(out) + " $ free0 !"
 
 
-def rooms():
+def rooms(sizes):
     """The arrays' sizes, and what each of their elements is at first."""
     return (
-        "\n\n".join(f"room₁-{s} : Room u64 {ROOM[s][0]}\nroom₁-{s} = (lit< tt, lit< tt)\n\nroom₂-{s} : Room i64 {ROOM[s][1]}\nroom₂-{s} = (lit< tt, lit< tt)" for s in SIZES)
+        "\n\n".join(f"room₁-{s} : Room u64 {ROOM[s][0]}\nroom₁-{s} = (lit< tt, lit< tt)\n\nroom₂-{s} : Room i64 {ROOM[s][1]}\nroom₂-{s} = (lit< tt, lit< tt)" for s in sizes)
         + """
 
 -- what each element of the arrays is at first
@@ -184,12 +185,12 @@ def array(here, ptr, made, room):
         """
 
 
-def arrays(n, size, a1, a2):
-    """The two local arrays of an arm are written, and each is lent for a lifetime that is made for it. n locals stand in front of the rest."""
+def arrays(n, size, a1, a2, front=0):
+    """The two local arrays of an arm are written, and each is lent for a lifetime that is made for it. n locals stand behind so much."""
     w, z = ROOM[size]
     l1, l2 = local(a1), local(a2)
     r1, r2 = f"room₁-{size}", f"room₂-{size}"
-    at = lambda j, h: h + 2 * (n - 1 - j)
+    at = lambda j, h: front + h + 2 * (n - 1 - j)
     return f"""assigns ! (rep ! {w} (lit ! tt)) (from ! (stop !)) (init ! {at(a1, 0)} refl (local-typed 𝓤 H A W u64 {w} 0 (vint w64 0) zero₁ (uint-lawful 𝓤 H A W w64))) $
         assigns ! (rep ! {z} (lit ! tt)) (from ! (stop !)) (init ! {at(a2, 0)} refl (local-typed 𝓤 H A W i64 {z} (pos 0) (vint w64 0) zero₂ (sint-lawful 𝓤 H A W w64))) $
         lft-new ! tt (λ α₁. move ! ({at(a1, 1)} ∷ []) $ use1 W (local-lent 𝓤 H A W u64 {w} 0 (vint w64 0) zero₁ (named 0) (α₁ ∷ []) {l1}) (local-lends 𝓤 H A W u64 {w} 0 (vint w64 0) zero₁ tt {r1} (uint-makes 𝓤 H A W w64) (named 0) (α₁ ∷ []) {l1}) $ await ! tt $ pick ! (λ g₁. learn ! (λ e₁. split ! $

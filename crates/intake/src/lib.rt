@@ -50,17 +50,33 @@ pub extern "C" fn intake_book(
 ) -> BookReply
     ensures { λ r. ⌜ HostBooked (inputOf retailer (now (distributors .entry)) (now (file .entry)) (now (run .entry)) used) r (now (run .exit)) ⌝ }
 {
-    if run.len() <= 1024 {
-        let mut few_words = [0u64; 9216];
-        let mut few_amounts = [0i64; 2048];
+    let places = lent_booking::places_told(file, run.len(), used);
+    if places <= 2048 {
+        let mut few_words = [0u64; 18432];
+        let mut few_amounts = [0i64; 4096];
         return lent_booking::book_in(
             retailer,
             distributors,
             file,
             run,
             used,
+            places,
             &mut few_words,
             &mut few_amounts,
+        );
+    }
+    if places <= 5120 {
+        let mut some_words = [0u64; 46080];
+        let mut some_amounts = [0i64; 10240];
+        return lent_booking::book_in(
+            retailer,
+            distributors,
+            file,
+            run,
+            used,
+            places,
+            &mut some_words,
+            &mut some_amounts,
         );
     }
     let mut words = [0u64; 73728];
@@ -71,6 +87,7 @@ pub extern "C" fn intake_book(
         file,
         run,
         used,
+        places,
         &mut words,
         &mut amounts,
     )

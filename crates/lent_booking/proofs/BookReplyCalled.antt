@@ -34,6 +34,8 @@ use Rattle.runs.proofs.Lent.{cites-by, words, lent, said, lends-got, lends-says
 use Rattle.booking.specs.Booking.{Input, inputOf, bookResult, runAfter}
 use Rattle.lent_booking.specs.declared.BookReply.{BookReply}
 use Rattle.lent_booking.specs.Replies.{bookReply, HostBooked, writtenTo, writtenFrom}
+use Rattle.lent_booking.specs.Told.{Told}
+use Rattle.text.specs.Text.{linesOf}
 use Rattle.lent_booking.proofs.BookReply as R
 use Rattle.lent_booking.proofs.book_reply as book-reply
 use Rattle.lent_booking.proofs.book_reply.Symbol.{name as #book-reply}

@@ -1,41 +1,48 @@
 -- Book on a lent run of which only the used entries were copied, and into which only what changed or was added is copied back.
---     reads-back               a host reads a reply as the answer that it was made of
+--     reads-back                                          a host reads a reply as the answer that it was made of
 --     from-none, from-file, from-cancel, from-original    from which place on the run is written, by what was added
+--     load-room                                           what the words have room for
 --     to-small, from-small, added-fits, may-read, may-store    the places that are written have room in the words, and stand in the run
---     wrapped                  the run is then as Book leaves it
+--     wrapped                                             the run is then as Book leaves it
+-- Book is told of the run's places or of fewer (`Told`): both are answered alike, since a file has no more TH and OC than lines.
 -- Assumes nothing.
 use mathlib.Core.Path.{_≡_, refl, sym, ap, subst, _∙_}
+use mathlib.Core.Logic.{_⊎_, inl, inr}
 use mathlib.Core.Bool.{Bool, true, false, cond, _&&_, true≢false}
 use mathlib.Core.List.{List, [], _∷_, _++_, append-assoc}
-use Prim.Native.Nat.{ℕ, _+_, _^_, _≤_, _<_, zero-le}
+use Prim.Native.Nat.{ℕ, suc, _+_, _^_, _≤_, _<_, zero-le}
 use native.Mathlib.Nat.{le-refl, le-trans, lt-of-le-of-lt}
 use native.Mathlib.Omega.{arith}
 use borrow.Author.Tests.{eq-eqb, ne-eqb, leb-false, lt-ltb, le-ltb, le-leb, lt-leb}
 use lib.Dec.{eqb, ltb, leb, lit<}
 use lib.IntN.{ℤ}
-use lib.ListN.{length, getD, take, drop, length-append, take-append-drop}
+use lib.ListN.{length, getD, take, drop, length-append, length-map, take-append-drop}
 use lib.Seq.{length-take-le, take-append-seam, getD-append-add}
-use Rattle.lists.specs.Selections.{count}
+use Rattle.lists.specs.Selections.{count, filter}
 use Rattle.lists.proofs.Selections.{cases}
-use Rattle.bill_files.specs.Accepted.{Bill, BillFile}
+use Rattle.text.specs.Text.{linesOf}
+use Rattle.format.specs.Format.{lineAt}
+use Rattle.bill_files.specs.Accepted.{Bill, BillFile, isBill, billIn, billsIn, billFile}
 use Rattle.entries.specs.declared.Entry.{Entry}
 use Rattle.entries.specs.Entries.{blank, isHeld}
 use Rattle.entries.specs.Words.{RoomFor, entriesFrom, entriesOf}
 use Rattle.entries.proofs.Words.{length-entries, take-entries}
 use Rattle.entries.proofs.Room.{room-fewer}
-use Rattle.soundness.specs.Sound.{isSound, sizesFit}
+use Rattle.soundness.specs.Sound.{isSound, sizesFit, entriesSound}
 use Rattle.soundness.specs.Room.{readCount}
-use Rattle.soundness.proofs.Sizes.{sizes-mean}
-use Rattle.booking.specs.Booking.{Input, inputOf, Result, fileOf, ledgerOf, cancels, originals, fileEntry, entry, booked, bookRefusal, isBooked, ledgerAfter, addedBy, refusedResult, acceptedResult, resultOf, bookResult, usedAfter, runAfter, Booked}
+use Rattle.soundness.proofs.Sizes.{sizes-mean, room-in-use}
+use Rattle.booking.specs.Booking.{Settings, Input, inputOf, openingRefusals, bookRefusals, ledgerRefusals, Result, fileOf, ledgerOf, cancels, originals, fileEntry, entry, booked, bookRefusal, isBooked, ledgerAfter, addedBy, refusedResult, acceptedResult, resultOf, bookResult, usedAfter, runAfter, Booked}
 use Rattle.booking.proofs.Added.{cancelAll, cancelEntries, originalEntries, booked-parts, length-cancel-all, length-booked, added-count}
 use Rattle.booking.proofs.Accepting.{accepted-unrefused}
 use Rattle.booking.proofs.AcceptedFile.{accepted-passes}
 use Rattle.booking.proofs.Lent.{same-result, unsound-same, unsound-result}
 use Rattle.booking.proofs.Steps.{refused-leaves, used-accepted, run-accepted, used-entries-after}
 use Rattle.runs.specs.Copies.{placed}
-use Rattle.runs.proofs.Laws.{read-le, read-cap}
+use Rattle.book.proofs.Rooms.{used-room}
+use Rattle.runs.proofs.Laws.{read-le, read-cap, read-below}
 use Rattle.runs.proofs.Sound.{loaded-cases}
 use Rattle.lent_booking.specs.declared.BookReply.{BookReply}
+use Rattle.lent_booking.specs.Told.{Told}
 use Rattle.lent_booking.specs.Replies.{bookReply, answerOf, HostBooked, writtenTo, writtenFrom}
 
 -- ---- a call's result
@@ -139,11 +146,57 @@ module _ (ys : List Entry) (used : ℕ) (room : used ≤ length ys) (file : Bill
       joined : take used after ++ (drop used after ++ drop (length after) ys) ≡ after ++ drop (length after) ys
       joined = sym (append-assoc (take used after) (drop used after) (drop (length after) ys)) ∙ ap (λ (es : List Entry). es ++ drop (length after) ys) (take-append-drop used after)
 
+-- ---- the places that Book is told of
+filter-few : {X : Type 0} (f : X → Bool) (xs : List X) → length (filter f xs) ≤ length xs
+filter-few f [] = zero-le
+filter-few f (x ∷ xs) = go (f x) (filter-few f xs)
+  where
+    go : (b : Bool) → length (filter f xs) ≤ length xs → length (cond b (x ∷ filter f xs) (filter f xs)) ≤ suc (length xs)
+    go true h = omega arith
+    go false h = omega arith
+
+-- a file has no more TH and OC than lines
+few-bills : (lines : List (List ℕ)) → length (billFile lines .bills) ≤ length lines
+unfolding billFile billsIn
+few-bills lines = omega (arith, length-map (filter isBill lines) (billIn (lineAt lines 0)), filter-few isBill lines)
+
+-- two runs with the same used entries, neither too long and both with room for the file, are answered alike
+module _ (s : Settings) (file : List ℕ) (used : ℕ) (run run′ : List Entry) (same : take used run ≡ take used run′) where
+  abbrev lentAs : List Entry → Input
+  lentAs r = record { settings = s; file = file; run = r; used = used }
+
+  module _ (small : length run ≤ 8192) (small′ : length run′ ≤ 8192) (room : used + 1 + length (linesOf file) ≤ length run) (room′ : used + 1 + length (linesOf file) ≤ length run′) where
+    fits : (r : List Entry) → length r ≤ 8192 → used + 1 + length (linesOf file) ≤ length r → sizesFit (length r) used ≡ true
+    fits r h k = sizes-mean (length r) used .1 (h, omega (arith, k))
+
+    sound-alike : isSound run used ≡ isSound run′ used
+    unfolding isSound
+    sound-alike = (λ t. fits run small room t && entriesSound (take used run)) ∙ (λ t. sym (fits run′ small′ room′) t && entriesSound (same t))
+
+    full : (r : List Entry) → used + 1 + length (linesOf file) ≤ length r → ltb (length r) (length (take used run′) + 1 + length (billFile (linesOf file) .bills)) ≡ false
+    full r k = le-ltb (length r) (length (take used run′) + 1 + length (billFile (linesOf file) .bills)) (omega (arith, length-take-le used run′ (omega (arith, room′)), few-bills (linesOf file), k))
+
+    same-refusals : bookRefusal (lentAs run) ≡ bookRefusal (lentAs run′)
+    unfolding bookRefusal bookRefusals openingRefusals ledgerRefusals
+    same-refusals = simp (sound-alike, same, full run room, full run′ room′)
+
+    roomy-result : bookResult (lentAs run) ≡ bookResult (lentAs run′)
+    unfolding bookResult
+    roomy-result = simp (same-refusals, same)
+
+-- room for the places that it is told of is room for what is loaded
+pub load-room : (places used lines p : ℕ) (ns : List ℕ) (zs : List ℤ) → Told places used lines p → RoomFor (readCount p p) ns zs → RoomFor (readCount places used) ns zs
+load-room places used lines p ns zs told wide =
+    elim told [
+      | inl e ↦ used-room ns zs places used (subst (λ (m : ℕ). RoomFor (readCount m m) ns zs) e wide)
+      | inr h ↦ room-fewer (read-below places used p (omega (arith, h .2))) (room-in-use p p (sizes-mean p p .1 (omega (arith, h .0, h .1), le-refl p)) wide)
+    ]
+
 -- ---- the call
-module _ (retailer : ℕ) (distributors file : List ℕ) (ys : List Entry) (used : ℕ) (ns : List ℕ) (zs : List ℤ)
+module _ (retailer : ℕ) (distributors file : List ℕ) (ys : List Entry) (used p : ℕ) (told : Told (length ys) used (length (linesOf file)) p) (ns : List ℕ) (zs : List ℤ)
     (loaded : entriesOf ns zs (readCount (length ys) used) ≡ take (readCount (length ys) used) ys) (ns′ : List ℕ) (zs′ : List ℤ) where
   abbrev es : List Entry
-  es = entriesOf ns zs (length ys)
+  es = entriesOf ns zs p
 
   abbrev i : Input
   i = inputOf retailer distributors file ys used
@@ -151,40 +204,68 @@ module _ (retailer : ℕ) (distributors file : List ℕ) (ys : List Entry) (used
   abbrev j : Input
   j = inputOf retailer distributors file es used
 
+  -- the sizes fit, and the used entries are the run's
+  record Alike : Type 0 where
+    small : length ys ≤ 8192
+    within : used ≤ p
+    below : p ≤ length ys
+    same : take used es ≡ take used ys
+    roomy : (p ≡ length ys) ⊎ (used + 1 + length (linesOf file) ≤ p)
+
+  -- or neither ledger is sound
+  told-cases {ξ} : {X : Type ξ} → (Alike → X) → (isSound es used ≡ false → isSound ys used ≡ false → X) → X
+  told-cases {X} alike unsound = elim told [ inl e ↦ all e | inr h ↦ some h ]
+    where
+      all : p ≡ length ys → X
+      all e = loaded-cases ns zs ys used loaded
+          (λ small room same. alike (record {
+            small = small;
+            within = omega (arith, e, room);
+            below = omega (arith, e);
+            same = subst (λ (m : ℕ). take used (entriesOf ns zs m) ≡ take used ys) (sym e) same;
+            roomy = inl e;
+          }))
+          (λ a b. unsound (subst (λ (m : ℕ). isSound (entriesOf ns zs m) used ≡ false) (sym e) a) b)
+
+      some : (length ys ≤ 8192) × (p ≤ length ys) × (used + 1 + length (linesOf file) ≤ p) → X
+      some h =
+          let within : used ≤ p = omega (arith, h .2) in
+          let fit = sizes-mean (length ys) used .1 (h .0, omega (arith, h .1, within)) in
+          alike (record {
+            small = h .0;
+            within = within;
+            below = h .1;
+            same = take-entries ns zs used p within ∙ subst (λ (b : Bool). entriesOf ns zs (cond b used 0) ≡ take (cond b used 0) ys) fit loaded;
+            roomy = inr (h .2);
+          })
+
   same-answer : bookResult j ≡ bookResult i
-  same-answer =
-      loaded-cases ns zs ys used loaded (λ _ _ same. same-result (i .settings) file used es ys same (length-entries ns zs (length ys)))
+  same-answer = told-cases
+      (λ a. elim (a .roomy) [
+        | inl e ↦ same-result (i .settings) file used es ys (a .same) (length-entries ns zs p ∙ e)
+        | inr h ↦ roomy-result (i .settings) file used es ys (a .same) (omega (arith, length-entries ns zs p, a .below, a .small)) (a .small) (omega (arith, length-entries ns zs p, h)) (omega (arith, h, a .below))
+      ])
       (λ e e′. unsound-same j i refl e e′)
 
   -- what an acceptance says of the run
   record Taken : Type 0 where
-    room : used ≤ length ys
-    small : length ys ≤ 8192
-    same : take used es ≡ take used ys
+    sizes : Alike
     total : used + length (addedBy i) ≡ length (ledgerAfter i)
-    fits : length (ledgerAfter i) ≤ length ys
+    fits-in : length (ledgerAfter i) ≤ p
 
   accepted : isBooked i ≡ true → Taken
-  accepted aye = loaded-cases ns zs ys used loaded
-      (λ small room same.
-      let long : length (ledgerOf i) ≡ used = length-take-le used ys room in
+  accepted aye = told-cases
+      (λ a.
+      let long : length (ledgerOf i) ≡ used = length-take-le used ys (omega (arith, a .within, a .below)) in
       record {
-        room = room;
-        small = small;
-        same = same;
+        sizes = a;
         total = omega (arith, added-count (ledgerOf i) (fileOf i), length-booked (ledgerOf i) (fileOf i), long);
-        fits = omega (arith, accepted-passes i aye .room, length-booked (ledgerOf i) (fileOf i), long);
+        fits-in = elim (a .roomy) [
+          | inl e ↦ omega (arith, e, accepted-passes i aye .room, length-booked (ledgerOf i) (fileOf i), long)
+          | inr h ↦ omega (arith, h, few-bills (linesOf file), length-booked (ledgerOf i) (fileOf i), long)
+        ];
       })
-      (λ _ e. absurd (refused-booked aye (unsound-booked e)))
-    where
-      refused-booked : isBooked i ≡ true → isBooked i ≡ false → ⊥
-      refused-booked a b = true≢false (sym a ∙ b)
-
-      unsound-booked : isSound ys used ≡ false → isBooked i ≡ false
-      unsound-booked e = cases (isBooked i) (λ aye. absurd (soundness-of aye e)) (λ nay. nay)
-        where
-          soundness-of : isBooked i ≡ true → isSound ys used ≡ false → ⊥
-          soundness-of aye e = true≢false (sym (accepted-unrefused i .0 aye .sound) ∙ e)
+      (λ _ e. absurd (true≢false (sym (accepted-unrefused i .0 aye .sound) ∙ e)))
 
   abbrev reply : BookReply
   reply = bookReply (bookResult j)
@@ -192,17 +273,17 @@ module _ (retailer : ℕ) (distributors file : List ℕ) (ys : List Entry) (used
   abbrev to : ℕ
   to = writtenTo reply used
 
-  to-read : to ≤ readCount (length ys) (length ys)
+  to-read : to ≤ readCount p p
   to-read =
-      subst (λ (r : Result). writtenTo (bookReply r) used ≤ readCount (length ys) (length ys)) (sym same-answer)
+      subst (λ (r : Result). writtenTo (bookReply r) used ≤ readCount p p) (sym same-answer)
       (result-cases i
       (λ aye is. let a = accepted aye in
-      subst (λ (r : Result). writtenTo (bookReply r) used ≤ readCount (length ys) (length ys)) (sym is)
-      (subst (λ (b : Bool). used + length (addedBy i) ≤ cond b (length ys) 0) (sym (sizes-mean (length ys) (length ys) .1 (a .small, le-refl (length ys)))) (omega (arith, a .total, a .fits))))
-      (λ nay number line some is. subst (λ (r : Result). writtenTo (bookReply r) used ≤ readCount (length ys) (length ys)) (sym is) (rw some zero-le)))
+      subst (λ (r : Result). writtenTo (bookReply r) used ≤ readCount p p) (sym is)
+      (subst (λ (b : Bool). used + length (addedBy i) ≤ cond b p 0) (sym (sizes-mean p p .1 (omega (arith, a .sizes .small, a .sizes .below), le-refl p))) (omega (arith, a .total, a .fits-in))))
+      (λ nay number line some is. subst (λ (r : Result). writtenTo (bookReply r) used ≤ readCount p p) (sym is) (rw some zero-le)))
 
   to-most : to ≤ 8192
-  to-most = le-trans to-read (read-cap (length ys) (length ys))
+  to-most = le-trans to-read (read-cap p p)
 
   pub to-small : to < 2 ^ 64
   to-small = lt-of-le-of-lt to-most (lit< tt)
@@ -220,14 +301,17 @@ module _ (retailer : ℕ) (distributors file : List ℕ) (ys : List Entry) (used
   pub from-small : from < 2 ^ 64
   from-small = lt-of-le-of-lt from-to to-small
 
-  module _ (wide : RoomFor (readCount (length ys) (length ys)) ns′ zs′) where
+  told-le : p ≤ length ys
+  told-le = elim told [ inl e ↦ omega (arith, e) | inr h ↦ h .1 ]
+
+  module _ (wide : RoomFor (readCount p p) ns′ zs′) where
     pub may-read : RoomFor to ns′ zs′ × (to ≤ 8192)
     may-read = (room-fewer to-read wide, to-most)
 
     pub may-store : (from ≤ to) × (to ≤ length ys) × RoomFor to ns′ zs′
-    may-store = (from-to, le-trans to-read (read-le (length ys) (length ys)), room-fewer to-read wide)
+    may-store = (from-to, le-trans to-read (le-trans (read-le p p) told-le), room-fewer to-read wide)
 
-  module _ (leaves : entriesOf ns′ zs′ (length ys) ≡ runAfter j) where
+  module _ (leaves : entriesOf ns′ zs′ p ≡ runAfter j) where
     -- the run when all is copied back, by the reply
     abbrev back : BookReply → List Entry
     back r = placed ys (entriesOf ns′ zs′ (writtenTo r used)) (writtenFrom (entriesOf ns′ zs′ (writtenTo r used)) used) (writtenTo r used)
@@ -241,11 +325,11 @@ module _ (retailer : ℕ) (distributors file : List ℕ) (ys : List Entry) (used
         let a = accepted aye in
         ap (λ (m : ℕ). placed ys (entriesOf ns′ zs′ m) (writtenFrom (entriesOf ns′ zs′ m) used) m) (a .total)
         ∙ ap (λ (es : List Entry). placed ys es (writtenFrom es used) (length (ledgerAfter i))) written
-        ∙ copied-back ys used (a .room) (fileOf i)
+        ∙ copied-back ys used (omega (arith, a .sizes .within, a .sizes .below)) (fileOf i)
         ∙ sym (run-accepted i aye)
       where
         after : ledgerAfter j ≡ ledgerAfter i
-        after = ap (λ (l : List Entry). booked l (fileOf i)) (accepted aye .same)
+        after = ap (λ (l : List Entry). booked l (fileOf i)) (accepted aye .sizes .same)
 
         aye′ : isBooked j ≡ true
         aye′ = cases (isBooked j) (λ e. e) (λ e. absurd (alike e))
@@ -257,7 +341,7 @@ module _ (retailer : ℕ) (distributors file : List ℕ) (ys : List Entry) (used
 
         written : entriesOf ns′ zs′ (length (ledgerAfter i)) ≡ ledgerAfter i
         written =
-            sym (take-entries ns′ zs′ (length (ledgerAfter i)) (length ys) (accepted aye .fits)) ∙ ap (take (length (ledgerAfter i))) leaves
+            sym (take-entries ns′ zs′ (length (ledgerAfter i)) p (accepted aye .fits-in)) ∙ ap (take (length (ledgerAfter i))) leaves
             ∙ ap (λ (m : ℕ). take m (runAfter j)) (ap length (sym after) ∙ sym (used-accepted j aye′)) ∙ used-entries-after j aye′ ∙ after
 
     Done : Result → Type 0

@@ -1,4 +1,5 @@
 pub mod BookInCalled
 pub mod BookReplyCalled
 pub mod Laws
+pub mod PlacesToldCalled
 pub mod WrittenCalled

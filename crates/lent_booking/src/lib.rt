@@ -4,12 +4,15 @@ ghost use mathlib.Core.Bool.{cond};
 ghost use Prim.Native.Nat.{_+_, _≤_};
 ghost use lib.Dec.{eqb};
 ghost use lib.ListN.{length};
+ghost use Rattle.text.specs.Text.{linesOf};
 ghost use Rattle.entries.specs.Words.{RoomFor, entriesOf};
 ghost use Rattle.soundness.specs.Room.{LedgerRoom};
 ghost use Rattle.booking.specs.Booking.{inputOf, resultOf, bookResult, runAfter};
 ghost use Rattle.lent_booking.specs.Replies.{bookReply, writtenTo, writtenFrom, HostBooked};
+ghost use Rattle.lent_booking.specs.Told.{Told, SizeFor};
 use booking::Answer;
 use entries::Entry;
+use text::Lines;
 
 // The answer of Book: a refusal's number and line; or 0, and how many entries were added and how many held.
 #[repr(C)]
@@ -85,21 +88,60 @@ fn written_from(words: &[u64], amounts: &[i64], used: usize, to: usize) -> usize
     used
 }
 
-// Book on a run, with lent words.
+// The smallest size of words that has room for so many entries, where the run has more places.
+fn size_for(places: usize, needed: usize) -> usize
+    requires { ⌜ 2048 ≤ places ⌝ }
+    ensures { λ r. ⌜ SizeFor places needed r ⌝ }
+{
+    if needed <= 2048 {
+        return 2048;
+    }
+    if places < 5120 {
+        return places;
+    }
+    if needed <= 5120 {
+        return 5120;
+    }
+    places
+}
+
+// How many of a run's places Book is told of, so that a large run with few entries in use takes small words: whether there is room for what a file adds
+// rests on its lines.
+pub fn places_told(file: &[u8], places: usize, used: usize) -> usize
+    ensures { λ r. ⌜ Told places used (length (linesOf (now (file .entry)))) r ⌝ }
+{
+    if places <= 2048 {
+        return places;
+    }
+    if 8192 < places {
+        return places;
+    }
+    if 4096 < used {
+        return places;
+    }
+    let mut starts = [0usize; 1023];
+    let mut ends = [0usize; 1023];
+    match text::find_lines(file, &mut starts, &mut ends) {
+        Lines::Count(n) => size_for(places, used + 1 + n),
+        Lines::TooMany => places,
+    }
+}
+
+// Book on a run, with lent words for so many of its places.
 pub fn book_in(
     retailer: u64,
     distributors: &[u8],
     file: &[u8],
     run: &mut [Entry],
     used: usize,
+    places: usize,
     words: &mut [u64],
     amounts: &mut [i64],
 ) -> BookReply
-    requires { ⌜ LedgerRoom (length (now run)) (length (now run)) (now words) (now amounts) ⌝ }
+    requires { ⌜ Told (length (now run)) used (length (linesOf (now file))) places × LedgerRoom places places (now words) (now amounts) ⌝ }
     ensures { λ r. ⌜ HostBooked (inputOf retailer (now (distributors .entry)) (now (file .entry)) (now (run .entry)) used) r (now (run .exit)) ⌝ }
 {
     runs::load(run, used, words, amounts);
-    let places = run.len();
     let reply = book_reply(retailer, distributors, file, words, amounts, places, used);
     let to = written_to(reply, used);
     let from = written_from(words, amounts, used, to);
