@@ -22,15 +22,6 @@ def owned(x):
     return f"owned ! {k} (Is {k}) (uint-makes 𝓤 H A W w64) {x} _ (refl, {g}) $ fjoin ! $ "
 
 
-def contract(f):
-    d = f.replace("_", "-")
-    return f"""
-module _ {GIVEN} {RUNNING} where
-  abbrev pub {camel(f)}Contract : Contract 𝓤
-  {camel(f)}Contract = tripleOf 𝓤 H A {d}.signature ({d}.spec 𝓤 H A mem run)
-"""
-
-
 INPUTS = """  abbrev sd : Val
   sd = sliceVal (d .ptr) (length (d .now))
 
@@ -46,12 +37,6 @@ INPUTS = """  abbrev sd : Val
   -- the distributors and the file
   abbrev inputs : Item 𝓤
   inputs = ‵ OwnD ⊛ ‵ OwnF ⊛ ‵ (flft κd qd) ⊛ ‵ (flft κf qf)
-"""
-SLICE_VALUES = """  abbrev s₁ : Val
-  s₁ = sliceVal (b₁, o₁) m₁
-
-  abbrev s₂ : Val
-  s₂ = sliceVal (b₂, o₂) m₂
 """
 CALLED_U8 = CALLED.replace("use denote.Builtin.{u64, i64, usize}", "use denote.Builtin.{u8, u64, i64, usize}")
 

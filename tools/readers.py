@@ -41,20 +41,11 @@ def core_called(o):
 {CALLED}use Rattle.entries.specs.Words.{{RoomFor, entriesOf}}
 use Rattle.soundness.specs.Room.{{readCount}}
 use Rattle.runs.proofs.Lent.{{cites, words, shared, shares-got, shares-says, shares}}
-{o.specs}{symbols(CRATE, f)}
-module _ {GIVEN} {RUNNING} where
-  abbrev pub {cap} : Contract 𝓤
-  {cap} = tripleOf 𝓤 H A {d}.signature ({d}.spec 𝓤 H A mem run)
-
+{o.specs}{symbols(CRATE, f)}{contract(f)}
 module _ {GIVEN} (W : Given 𝓤 H A) {RUNNING} (C : Calls 𝓤 H) (fm : FmC 𝓤 H (W .laws) C)
     {LENT}
     (known : Triple 𝓤 (C #{d}) ({cap} 𝓤 H A mem run)) ({' '.join(nums)} : ℕ) where
-  abbrev s₁ : Val
-  s₁ = sliceVal (b₁, o₁) m₁
-
-  abbrev s₂ : Val
-  s₂ = sliceVal (b₂, o₂) m₂
-
+{SLICE_VALUES}
   abbrev vs : List Val
   vs = s₁ ∷ s₂ ∷ {' ∷ '.join('vint w64 ' + x for x in nums)} ∷ []
 
@@ -126,11 +117,7 @@ use Rattle.entries.specs.Words.{{RoomFor}}
 use Rattle.entries.proofs.Entry as T
 use Rattle.soundness.specs.Room.{{readCount}}
 use Rattle.runs.proofs.Lent.{{cites-by, words, lent, said, lends-got, lends-says, lends}}
-{o.specs}{symbols(CRATE, f)}
-module _ {GIVEN} {RUNNING} where
-  abbrev pub {cap} : Contract 𝓤
-  {cap} = tripleOf 𝓤 H A {d}.signature ({d}.spec 𝓤 H A mem run)
-
+{o.specs}{symbols(CRATE, f)}{contract(f)}
 module _ {GIVEN} (W : Given 𝓤 H A) {RUNNING} (C : Calls 𝓤 H) (fm : FmC 𝓤 H (W .laws) C)
     {LENT}
     (known : Triple 𝓤 (C #{d}) ({cap} 𝓤 H A mem run)) (κ : Lft) (q : Share) (r : RefT (List Entry)) ({' '.join(nums)} : ℕ) where
@@ -140,12 +127,7 @@ module _ {GIVEN} (W : Given 𝓤 H A) {RUNNING} (C : Calls 𝓤 H) (fm : FmC �
   abbrev x₂ : GName → RefT (List ℤ)
   x₂ δ = record {{ ptr = (b₂, o₂); name = δ; now = zs }}
 
-  abbrev s₁ : Val
-  s₁ = sliceVal (b₁, o₁) m₁
-
-  abbrev s₂ : Val
-  s₂ = sliceVal (b₂, o₂) m₂
-
+{SLICE_VALUES}
   abbrev s : Val
   s = sliceVal (r .ptr) (length (r .now))
 
@@ -270,12 +252,7 @@ module _ {GIVEN} (W : Given 𝓤 H A) {RUNNING}
   abbrev s₀ : Val
   s₀ = sliceVal (r .ptr) n
 
-  abbrev s₁ : Val
-  s₁ = sliceVal (b₁, o₁) m₁
-
-  abbrev s₂ : Val
-  s₂ = sliceVal (b₂, o₂) m₂
-
+{SLICE_VALUES}
   abbrev answer : {o.reply}
   answer = {o.meaning('ys')}
 

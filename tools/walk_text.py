@@ -111,6 +111,23 @@ def symbols(crate, f):
     return f"use Rattle.{crate}.proofs.{f} as {d}\nuse Rattle.{crate}.proofs.{f}.Symbol.{{name as #{d}}}\n"
 
 
+def contract(f):
+    d = f.replace("_", "-")
+    return f"""
+module _ {GIVEN} {RUNNING} where
+  abbrev pub {camel(f)}Contract : Contract 𝓤
+  {camel(f)}Contract = tripleOf 𝓤 H A {d}.signature ({d}.spec 𝓤 H A mem run)
+"""
+
+
+SLICE_VALUES = """  abbrev s₁ : Val
+  s₁ = sliceVal (b₁, o₁) m₁
+
+  abbrev s₂ : Val
+  s₂ = sliceVal (b₂, o₂) m₂
+"""
+
+
 def local(j):
     return "l" + sub(j)
 

@@ -10,19 +10,19 @@ use mathlib.Core.Path.{_≡_, refl, sym, ap, subst, _∙_}
 use mathlib.Core.Logic.{_⊎_, inl, inr}
 use mathlib.Core.Bool.{Bool, true, false, cond, _&&_, true≢false}
 use mathlib.Core.List.{List, [], _∷_, _++_, append-assoc}
-use Prim.Native.Nat.{ℕ, suc, _+_, _^_, _≤_, _<_, zero-le}
+use Prim.Native.Nat.{ℕ, _+_, _^_, _≤_, _<_, zero-le}
 use native.Mathlib.Nat.{le-refl, le-trans, lt-of-le-of-lt}
 use native.Mathlib.Omega.{arith}
 use borrow.Author.Tests.{eq-eqb, ne-eqb, leb-false, lt-ltb, le-ltb, le-leb, lt-leb}
 use lib.Dec.{eqb, ltb, leb, lit<}
 use lib.IntN.{ℤ}
-use lib.ListN.{length, getD, take, drop, length-append, length-map, take-append-drop}
+use lib.ListN.{length, getD, take, drop, length-append, take-append-drop}
 use lib.Seq.{length-take-le, take-append-seam, getD-append-add}
-use Rattle.lists.specs.Selections.{count, filter}
+use Rattle.lists.specs.Selections.{count}
 use Rattle.lists.proofs.Selections.{cases}
 use Rattle.text.specs.Text.{linesOf}
-use Rattle.format.specs.Format.{lineAt}
-use Rattle.bill_files.specs.Accepted.{Bill, BillFile, isBill, billIn, billsIn, billFile}
+use Rattle.bill_files.specs.Accepted.{Bill, BillFile, billFile}
+use Rattle.bill_files.proofs.Accepted.{bills-few}
 use Rattle.entries.specs.declared.Entry.{Entry}
 use Rattle.entries.specs.Entries.{blank, isHeld}
 use Rattle.entries.specs.Words.{RoomFor, entriesFrom, entriesOf}
@@ -147,18 +147,10 @@ module _ (ys : List Entry) (used : ℕ) (room : used ≤ length ys) (file : Bill
       joined = sym (append-assoc (take used after) (drop used after) (drop (length after) ys)) ∙ ap (λ (es : List Entry). es ++ drop (length after) ys) (take-append-drop used after)
 
 -- ---- the places that Book is told of
-filter-few : {X : Type 0} (f : X → Bool) (xs : List X) → length (filter f xs) ≤ length xs
-filter-few f [] = zero-le
-filter-few f (x ∷ xs) = go (f x) (filter-few f xs)
-  where
-    go : (b : Bool) → length (filter f xs) ≤ length xs → length (cond b (x ∷ filter f xs) (filter f xs)) ≤ suc (length xs)
-    go true h = omega arith
-    go false h = omega arith
-
 -- a file has no more TH and OC than lines
 few-bills : (lines : List (List ℕ)) → length (billFile lines .bills) ≤ length lines
-unfolding billFile billsIn
-few-bills lines = omega (arith, length-map (filter isBill lines) (billIn (lineAt lines 0)), filter-few isBill lines)
+unfolding billFile
+few-bills lines = bills-few lines
 
 -- two runs with the same used entries, neither too long and both with room for the file, are answered alike
 module _ (s : Settings) (file : List ℕ) (used : ℕ) (run run′ : List Entry) (same : take used run ≡ take used run′) where

@@ -55,7 +55,8 @@ use Rattle.entries.proofs.Words.{length-writes, written-here, written-elsewhere
 use Rattle.entries.proofs.Room.{room-fewer, room-same}
 use Rattle.soundness.specs.Room.{readCount}
 use Rattle.runs.proofs.Laws.{read-le, read-cap, taken}
-use Rattle.runs.proofs.Turn.{tyAt, holds, fails, test}
+use Rattle.lists.proofs.Selections.{is-true, is-false}
+use Rattle.runs.proofs.Turn.{tyAt, test}
 use Rattle.runs.proofs.Called.{Count, SetEntry, read-count-got, read-count-called, set-entry-got, set-entry-called}
 use Rattle.entries.proofs.Entry as T
 use Rattle.entries.proofs.Entry.Laws as T′
@@ -220,7 +221,7 @@ module _ {M : Type 1} (𝓤 : URA M) (H : Heap 𝓤) (A : Atoms 𝓤) (W : Given
       unfolding afterTurn
       less t h =
           assigns ! (bin ! (loads ! (from ! (stop !)) (look ! 26 refl)) (loads ! (from ! (stop !)) (look ! 28 refl)) tt) (from ! (stop !)) (init ! 22 refl (tt, tt)) $
-          rewrite ! 22 (λ (z : Bool). ‵ (fat fullShare tyBool l₈ 0 (vbool z))) (holds (ltb (t .i) n) h) refl $ stays ! (loads ! (from ! (stop !)) (look ! 22 refl)) $
+          rewrite ! 22 (λ (z : Bool). ‵ (fat fullShare tyBool l₈ 0 (vbool z))) (is-true (ltb (t .i) n) h) refl $ stays ! (loads ! (from ! (stop !)) (look ! 22 refl)) $
           -- the words and the amounts are lent again
           assigns ! (addr ! (from ! (fld ! refl (hop ! (look-in ! 32 (sub ! 0 refl (whole !))) (stop !))))) (from ! (stop !)) (init ! 18 refl (tt, tt)) $
           assigns ! (agg ! (and-then ! (loads ! (from ! (stop !)) (look ! 18 refl)) (and-then ! (loads ! (from ! (fld ! refl (stop !))) (look-in ! 32 (sub ! 1 refl (whole !)))) (no-more !)))) (from ! (stop !)) (init ! 16 refl (tt, (tt, (record { fits = room₁ .0 }, tt)))) $
@@ -278,7 +279,7 @@ module _ {M : Type 1} (𝓤 : URA M) (H : Heap 𝓤) (A : Atoms 𝓤) (W : Given
       unfolding afterTurn
       over t h =
           assigns ! (bin ! (loads ! (from ! (stop !)) (look ! 26 refl)) (loads ! (from ! (stop !)) (look ! 28 refl)) tt) (from ! (stop !)) (init ! 22 refl (tt, tt)) $
-          rewrite ! 22 (λ (z : Bool). ‵ (fat fullShare tyBool l₈ 0 (vbool z))) (fails (ltb (t .i) n) h) refl $ leaves-loop ! (loads ! (from ! (stop !)) (look ! 22 refl)) $
+          rewrite ! 22 (λ (z : Bool). ‵ (fat fullShare tyBool l₈ 0 (vbool z))) (is-false (ltb (t .i) n) h) refl $ leaves-loop ! (loads ! (from ! (stop !)) (look ! 22 refl)) $
           exec ! C Λ En parts.t-5 (atRet En Post) $
           assigns ! (of-opd ! (unit-lit !)) (from ! (stop !)) (init ! 38 refl (tt, tt)) $
           returns ! (look ! 38 refl) $ forget ! 38 refl $ forget ! 36 refl $ forget ! 34 refl $ forget ! 32 refl $ forget ! 30 refl $ forget ! 28 refl $ forget ! 26 refl $ forget ! 22 refl $

@@ -57,7 +57,8 @@ use Rattle.entries.proofs.Room.{room-fewer}
 use Rattle.entries.proofs.Words.{length-entries, entry-of}
 use Rattle.runs.specs.Copies.{placed}
 use Rattle.runs.proofs.Laws.{placed-is}
-use Rattle.runs.proofs.Turn.{tyAt, holds, fails, test}
+use Rattle.lists.proofs.Selections.{is-true, is-false}
+use Rattle.runs.proofs.Turn.{tyAt, test}
 use Rattle.runs.proofs.Called.{EntryAt, entry-at-got, entry-at-called}
 use Rattle.entries.proofs.Entry as T
 use Rattle.entries.proofs.Entry.Laws as T′
@@ -215,7 +216,7 @@ module _ {M : Type 1} (𝓤 : URA M) (H : Heap 𝓤) (A : Atoms 𝓤) (W : Given
       unfolding afterTurn
       less t h =
           assigns ! (bin ! (loads ! (from ! (stop !)) (look ! 14 refl)) (loads ! (from ! (stop !)) (look ! 18 refl)) tt) (from ! (stop !)) (init ! 12 refl (tt, tt)) $
-          rewrite ! 12 (λ (z : Bool). ‵ (fat fullShare tyBool l₇ 0 (vbool z))) (holds (ltb (t .i) n) h) refl $ stays ! (loads ! (from ! (stop !)) (look ! 12 refl)) $
+          rewrite ! 12 (λ (z : Bool). ‵ (fat fullShare tyBool l₇ 0 (vbool z))) (is-true (ltb (t .i) n) h) refl $ stays ! (loads ! (from ! (stop !)) (look ! 12 refl)) $
           -- `entry_at` is called: the first four entries become the call, and come back
           group ! 4 $ use1 W (raw (C #entries·entry-at (s₁ ∷ s₂ ∷ vint w64 (t .i) ∷ []) (λ w. ⋆ 𝓤 H A (got w ∷ [])))) (entry-at-called 𝓤 H A W mem run C fm known κ₁ κ₂ q₁ q₂ r₁ r₂ (t .i) (fits t) wide′) $
           calls ! fm got (and-then ! (loads ! (from ! (stop !)) (look ! 21 refl)) (and-then ! (loads ! (from ! (stop !)) (look ! 19 refl)) (and-then ! (loads ! (from ! (stop !)) (look ! 11 refl)) (no-more !)))) (λ w. await ! tt $ learn ! (λ g.
@@ -264,7 +265,7 @@ module _ {M : Type 1} (𝓤 : URA M) (H : Heap 𝓤) (A : Atoms 𝓤) (W : Given
       unfolding afterTurn
       over t h =
           assigns ! (bin ! (loads ! (from ! (stop !)) (look ! 14 refl)) (loads ! (from ! (stop !)) (look ! 18 refl)) tt) (from ! (stop !)) (init ! 12 refl (tt, tt)) $
-          rewrite ! 12 (λ (z : Bool). ‵ (fat fullShare tyBool l₇ 0 (vbool z))) (fails (ltb (t .i) n) h) refl $ leaves-loop ! (loads ! (from ! (stop !)) (look ! 12 refl)) $
+          rewrite ! 12 (λ (z : Bool). ‵ (fat fullShare tyBool l₇ 0 (vbool z))) (is-false (ltb (t .i) n) h) refl $ leaves-loop ! (loads ! (from ! (stop !)) (look ! 12 refl)) $
           exec ! C Λ En parts.t-3 (atRet En Post) $
           assigns ! (of-opd ! (unit-lit !)) (from ! (stop !)) (init ! 26 refl (tt, tt)) $
           returns ! (look ! 26 refl) $ forget ! 26 refl $ forget ! 24 refl $ forget ! 22 refl $ forget ! 20 refl $ forget ! 18 refl $ forget ! 16 refl $ forget ! 14 refl $ forget ! 12 refl $
