@@ -429,7 +429,7 @@ pub fn book(
     if !validation::settings_fit(retailer, distributors) {
         return Answer::Refused(104, 0);
     }
-    if !soundness_certificate::is_sound(words, amounts, places, used) {
+    if !sound_ledgers::is_sound(words, amounts, places, used) {
         return Answer::Refused(105, 0);
     }
     if 1048576 < file.len() {

@@ -1,30 +1,43 @@
 -- The marks of cancels, with one entry more, and that they make cancels and cancelled entries pair off.
---     not-both                                 where one of two tests fails, not both numbers are those tested for
---     cancels                                  what the tests of a cancel and an entry show
+--     not-both, both-hold                      two numbers that are tested at once
+--     cancels, cancels-named, cancels-opposite what the tests of a cancel and an entry show
+--     key-place, named-place                   the entry that a cancel names is the first that has the key named
+--     unpaired-cancel, marked-twice, unmarked  what a sound ledger has not
 --     marked-none, marked-more, marked-kept    the marks of cancels: at the start; one more; the same
 --     paired-off                               where each cancelled entry has a mark, cancels and cancelled entries pair off
 -- Assumes nothing.
-use mathlib.Core.Path.{_≡_, sym, _∙_, ap, subst}
+use mathlib.Core.Path.{_≡_, refl, sym, _∙_, ap, subst}
 use mathlib.Core.List.{List}
-use mathlib.Core.Bool.{true, false, _&&_, true≢false}
+use mathlib.Core.Bool.{Bool, true, false, _&&_, true≢false}
 use Prim.Native.Nat.{ℕ, _+_, _<_}
 use native.Mathlib.Omega.{arith}
 use native.Mathlib.Decide.{ℕ-discrete, decLt}
 use borrow.Author.Count.{below-none, below-more}
-use borrow.Author.Tests.{eq-eqb}
+use borrow.Author.Tests.{eq-eqb, ne-eqb, eqb-true}
 use lib.Dec.{eqb}
 use lib.ListN.{length, getD, set}
 use lib.Seq.{getD-set-same, getD-set-other}
 use Rattle.entries.specs.declared.Entry.{Entry}
 use Rattle.entries.specs.Entries.{entryOf}
-use Rattle.soundness.specs.Meaning.{Names, Paired}
+use Rattle.soundness.specs.Meaning.{Names, Paired, Sound}
 use Rattle.soundness.specs.Sound.{isNamed, opposite}
 use Rattle.soundness.proofs.Meaning.{named-means, opposite-means}
-use Rattle.entry_keys.specs.Keys.{KeysDiffer, stateAt}
+use Rattle.buckets.specs.Buckets.{firstPlace}
+use Rattle.buckets.proofs.Laws.{first-is}
+use Rattle.entry_keys.specs.Keys.{keyOf, Keyed, KeysDiffer, stateAt}
+use Rattle.entry_keys.proofs.Laws.{key-tells}
 use Rattle.pairing.specs.Pairing.{Cancels, Marked, WithMarks, PairedOff}
 
 pub not-both : (a b x y : ℕ) → (eqb a x && eqb b y) ≡ false → a ≡ x → b ≡ y → ⊥
 not-both a b x y amiss p q = let both : (eqb a x && eqb b y) ≡ true = simp (eq-eqb a x p, eq-eqb b y q) in true≢false (sym both ∙ amiss)
+
+pub both-hold : (a b x y : ℕ) → (eqb a x && eqb b y) ≡ true → (a ≡ x) × (b ≡ y)
+both-hold a b x y = go (eqb a x) (eqb b y) refl refl
+  where
+    go : (s t : Bool) → eqb a x ≡ s → eqb b y ≡ t → (s && t) ≡ true → (a ≡ x) × (b ≡ y)
+    go true true p q _ = (eqb-true a x p, eqb-true b y q)
+    go true false p q z = let w : _≡_ {A = ℕ} 0 1 = cc in absurd (omega arith)
+    go false t p q z = let w : _≡_ {A = ℕ} 0 1 = cc in absurd (omega arith)
 
 module _ (es : List Entry) where
   pub cancels : (i j : ℕ) (c e : Entry) → c ≡ entryOf es i → e ≡ entryOf es j → j < i → c .state ≡ 4 → isNamed c e ≡ true → opposite c e ≡ true → Cancels es i j
@@ -37,6 +50,70 @@ module _ (es : List Entry) where
         names = named-mean .1;
         opposite = opposite-means (entryOf es i) (entryOf es j) .0 ((λ t. opposite (sym p t) (sym q t)) ∙ undone);
       }
+
+  pub cancels-named : (i j : ℕ) → Cancels es i j → isNamed (entryOf es i) (entryOf es j) ≡ true
+  cancels-named i j pair = named-means (entryOf es i) (entryOf es j) .1 (pair .cancelled, pair .names)
+
+  pub cancels-opposite : (i j : ℕ) → Cancels es i j → opposite (entryOf es i) (entryOf es j) ≡ true
+  cancels-opposite i j pair = opposite-means (entryOf es i) (entryOf es j) .1 (pair .opposite)
+
+  -- a pair of a sound ledger
+  of-pair : {used i j : ℕ} → Paired es used i j → Cancels es i j
+  of-pair pair = record { earlier = pair .earlier; cancel = pair .cancel; cancelled = pair .cancelled; names = pair .names; opposite = pair .opposite }
+
+  module _ (used : ℕ) (differ : KeysDiffer es used) where
+    -- what is named by one sender and one Record ID is one entry
+    one-named : (c : Entry) (p j : ℕ) → p < used → j < used → Names c (entryOf es p) → Names c (entryOf es j) → p ≡ j
+    one-named c p j m l one other = go (decLt p j) (decLt j p)
+      where
+        sender : entryOf es p .sender ≡ entryOf es j .sender
+        sender = sym (one .alike .sender) ∙ other .alike .sender
+
+        id : entryOf es p .id ≡ entryOf es j .id
+        id = one .id ∙ sym (other .id)
+
+        go : Dec (p < j) → Dec (j < p) → p ≡ j
+        go (yes before) after = absurd (differ p j before l sender id)
+        go (no before) (yes after) = absurd (differ j p after m (sym sender) (sym id))
+        go (no before) (no after) = omega (arith, before, after)
+
+    pub key-place : (keys : List ℕ) → Keyed es used keys → (c : Entry) (j : ℕ) → j < used → Names c (entryOf es j) → firstPlace keys used (keyOf (c .sender) (c .cancels)) ≡ j
+    key-place keys keyed c j l names =
+        first-is (λ (k : ℕ). eqb (getD keys k 0) (keyOf (c .sender) (c .cancels))) used j l (eq-eqb _ _ here) (λ k h. ne-eqb _ _ (λ e. other k h (e ∙ sym here)))
+      where
+        here : getD keys j 0 ≡ keyOf (c .sender) (c .cancels)
+        here = keyed .copied j l ∙ (λ t. keyOf (sym (names .alike .sender) t) (names .id t))
+
+        other : (k : ℕ) → k < j → getD keys k 0 ≡ getD keys j 0 → ⊥
+        other k h e =
+            let one = keyed .fit k (omega arith) in
+            let two = keyed .fit j l in
+            let both = key-tells _ _ _ _ (one .sender) (two .sender) (one .id) (two .id) (sym (keyed .copied k (omega arith)) ∙ e ∙ keyed .copied j l) in
+            differ k j h l (both .0) (both .1)
+
+    pub named-place : (keys : List ℕ) → Keyed es used keys → (i p place : ℕ) (c : Entry) → i < used → c ≡ entryOf es i → place ≡ firstPlace keys used (keyOf (c .sender) (c .cancels))
+        → Cancels es i p → place ≡ p
+    named-place keys keyed i p place c h is found pair =
+        found ∙ ap (λ (x : Entry). firstPlace keys used (keyOf (x .sender) (x .cancels))) is ∙ key-place keys keyed (entryOf es i) p (omega (arith, pair .earlier)) (pair .names)
+
+    -- ---- what a sound ledger has not
+    pub unpaired-cancel : (i : ℕ) → i < used → entryOf es i .state ≡ 4 → ((j : ℕ) → Cancels es i j → ⊥) → Sound es used → ⊥
+    unpaired-cancel i h cancel none sound = let w = sound .cancel-paired i h cancel in none (w .0) (of-pair (w .1))
+
+    pub marked-twice : (i j : ℕ) (marks : List ℕ) → i < used → Marked es i marks → Cancels es i j → (getD marks j 0 ≡ 0 → ⊥) → Sound es used → ⊥
+    marked-twice i j marks h M pair some sound =
+        let w = sound .cancel-paired i h (pair .cancel) in
+        let k = M .only j some in
+        let same = one-named (entryOf es i) j (w .0) (omega (arith, pair .earlier)) (omega (arith, w .1 .earlier)) (pair .names) (w .1 .names) in
+        let i′ = w .1 .only (k .0) (omega (arith, k .1)) (k .2 .cancel) (subst (λ (p : ℕ). Names (entryOf es (k .0)) (entryOf es p)) same (k .2 .names)) in
+        omega (arith, k .1, i′)
+
+    pub unmarked : (marks : List ℕ) → Marked es used marks → (WithMarks (stateAt es) used marks → ⊥) → Sound es used → ⊥
+    unmarked marks M missing sound = missing (λ j l cancelled none.
+        let w = sound .cancelled-paired j l cancelled in
+        let v = M .each (w .0) (w .1) (w .2 .cancel) in
+        let same = one-named (entryOf es (w .0)) (v .0) j (omega (arith, v .1 .earlier, w .1)) l (v .1 .names) (w .2 .names) in
+        omega (arith, v .2, ap (λ (p : ℕ). getD marks p 0) same, none))
 
   pub marked-none : (marks : List ℕ) → ((j : ℕ) → getD marks j 0 ≡ 0) → Marked es 0 marks
   marked-none marks none = record { each = below-none _; only = λ j some. absurd (some (none j)) }
@@ -68,14 +145,7 @@ module _ (es : List Entry) where
     mark-at : (i j : ℕ) → i < used → j < used → entryOf es i .state ≡ 4 → Names (entryOf es i) (entryOf es j) → getD marks j 0 ≡ i + 1
     mark-at i j h l cancel names =
         let w = M .each i h cancel in
-        let sender = sym (w .1 .names .alike .sender) ∙ names .alike .sender in
-        let id = w .1 .names .id ∙ sym (names .id) in
-        subst (λ (p : ℕ). getD marks p 0 ≡ i + 1) (same (w .0) (omega (arith, w .1 .earlier)) sender id (decLt (w .0) j) (decLt j (w .0))) (w .2)
-      where
-        same : (p : ℕ) → p < used → entryOf es p .sender ≡ entryOf es j .sender → entryOf es p .id ≡ entryOf es j .id → Dec (p < j) → Dec (j < p) → p ≡ j
-        same p m sender id (yes before) after = absurd (differ p j before l sender id)
-        same p m sender id (no before) (yes after) = absurd (differ j p after m (sym sender) (sym id))
-        same p m sender id (no before) (no after) = omega (arith, before, after)
+        subst (λ (p : ℕ). getD marks p 0 ≡ i + 1) (one-named used differ (entryOf es i) (w .0) j (omega (arith, w .1 .earlier)) l (w .1 .names) names) (w .2)
 
     paired : (i j : ℕ) → i < used → Cancels es i j → Paired es used i j
     paired i j h pair =

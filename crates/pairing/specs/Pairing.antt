@@ -1,12 +1,22 @@
 -- What the marks of a ledger's cancels show.
 -- Assumes nothing.
-use Prim.Native.Nat.{ℕ, _+_, _<_}
+use Prim.Native.Nat.{ℕ, _+_, _*_, _≤_, _<_}
 use mathlib.Core.Path.{_≡_}
 use mathlib.Core.List.{List}
-use lib.ListN.{getD}
+use lib.ListN.{length, getD}
+use Rattle.tree_places.specs.Trees.{Indexed}
 use Rattle.entries.specs.declared.Entry.{Entry}
 use Rattle.entries.specs.Entries.{entryOf}
 use Rattle.soundness.specs.Meaning.{Names, Opposite, Paired}
+
+-- the keys of the used entries are in a tree
+pub record KeyIndex (used size : ℕ) (keys tree : List ℕ) : Type 0 where
+  pub keyed : used ≤ length keys
+  pub some : 0 < size
+  pub few : size ≤ 65536
+  pub room : size + 2 * used ≤ length tree
+  pub most : used ≤ 65535
+  pub indexed : Indexed size keys used tree
 
 -- ---- "cancels and cancelled entries pair off as 39 and 40 require, the cancelled one earlier"
 -- the cancel at i cancels the entry at j, before it

@@ -1,4 +1,2 @@
 pub mod Conditions
-pub mod CountScan
 pub mod Opposite
-pub mod Partners

@@ -1,5 +1,5 @@
 // When a ledger is sound, in specs/: document 01's sentences. Here are those that look at the sizes and at one entry, each a function of its own.
-// `plain_soundness::is_sound_plainly` and `soundness_certificate::is_sound` ask them all.
+// `sound_ledgers::is_sound` asks them all.
 ghost use mathlib.Core.Path.{_≡_};
 ghost use mathlib.Core.Bool.{not, cond, _||_, _&&_};
 ghost use Prim.Native.Nat.{_<_, _^_};

@@ -5,7 +5,7 @@ use Prim.Native.Nat.{ℕ, _+_, _-_, _≤_}
 use denote.Ref.{now}
 use lib.ListN.{length, length-set, set}
 use borrow.Author.Count.{below-none}
-use borrow.Author.Tests.{not-false}
+use borrow.Author.Tests.{not-true, not-false}
 use Rattle.lists.specs.Column.{Copied}
 use Rattle.lists.proofs.Column.{copied-more}
 use Rattle.apart.proofs.Gathering.{gathering-none}
@@ -13,11 +13,12 @@ use Rattle.apart.specs.Gathered.{Gathering}
 use Rattle.entries.specs.declared.Entry.{Entry}
 use Rattle.entries.specs.Words.{entriesOf}
 use Rattle.soundness.specs.Meaning.{EntryFits}
+use Rattle.soundness.specs.Sound.{entryFits}
 use Rattle.soundness.proofs.Meaning.{entry-means}
 use Rattle.live_periods.proofs.Laws.{gathered-more}
 use Rattle.live_periods.specs.LivePeriods.{liveAt, firstDay, lastDay}
 use Rattle.entry_keys.specs.Keys.{keyOf, Keyed, stateAt}
-use Rattle.entry_keys.proofs.Laws.{keyed-none, keyed-more}
+use Rattle.entry_keys.proofs.Laws.{keyed-none, keyed-more, misfit}
 use borrow.Author.Needs.{needs}
 use native.Mathlib.Omega.{arith}
 use Rattle.entry_keys.proofs.copy_entries.Statement.{statement}
@@ -56,7 +57,11 @@ same-length-4 : tie.Need-same-length-4 Inv-loop μ-loop
 same-length-4 c = search needs
 
 returns : tie.Need-returns Inv-loop μ-loop
-returns c = λ e. absurd (omega arith)
+returns c =
+    let e = c .before .before .entry-in-use in (
+      λ z. let w : _≡_ {A = ℕ} 0 1 = cc in absurd (omega arith),
+      λ _. misfit _ _ _ (c .before .before .before .loop-test .taken) (ap entryFits (sym (e .ensures)) ∙ sym (c .before .entry-fits .ensures) ∙ not-true _ (c .if1 .taken)),
+    )
 
 key-requires : tie.Need-key-requires Inv-loop μ-loop
 key-requires c κs = search needs
@@ -125,7 +130,7 @@ returns-2 c =
     let a = c .before .before .before .before .before .before .before .args in
     let es = entriesOf (now (a .words)) (now (a .amounts)) (a .used) in
     let z : p .i ≡ a .used = omega arith in
-    λ e. subst (λ (m : ℕ). Keyed es m (p .keys) × Copied (stateAt es) m (p .states) × Gathering (liveAt es) (firstDay es) (lastDay es) (p .firsts) (p .lasts) m (p .live)) z (p .inv .5)
+    (λ _. subst (λ (m : ℕ). Keyed es m (p .keys) × Copied (stateAt es) m (p .states) × Gathering (liveAt es) (firstDay es) (lastDay es) (p .firsts) (p .lasts) m (p .live)) z (p .inv .5), λ e. let w : _≡_ {A = ℕ} 0 1 = cc in absurd (omega arith))
 
 pub copy-entries-spec : {M : Type 1} → statement M
 copy-entries-spec =

@@ -1,4 +1,4 @@
--- `pairing::mark_cancelled` meets its contract. The loop's invariant: the cancels passed have left their marks, and there is no other mark.
+-- `pairing::mark_cancelled` meets its contract. The loop's invariant: the cancels passed have left their marks.
 -- Assumes nothing.
 use mathlib.Core.Path.{_≡_, refl, sym, _∙_, ap, subst}
 use mathlib.Core.Logic.{⊎-elim}
@@ -9,22 +9,20 @@ use lib.ListN.{length, length-set}
 use Rattle.entries.specs.declared.Entry.{Entry}
 use Rattle.entries.specs.Words.{entriesOf}
 use Rattle.pairing.specs.Pairing.{Marked}
-use Rattle.pairing.proofs.Laws.{marked-none, marked-more, marked-kept}
+use Rattle.pairing.proofs.Laws.{marked-none, marked-more, marked-kept, unpaired-cancel, marked-twice}
 use borrow.Author.Needs.{needs}
 use native.Mathlib.Omega.{arith}
 use Rattle.pairing.proofs.mark_cancelled.Statement.{statement}
 use Rattle.pairing.proofs.mark_cancelled.Tie as tie
 
 abbrev Inv-loop : tie.InvT-loop
-Inv-loop words amounts used keys heads links order sorted states marks₀ i₀ marks i = (i ≤ used) × (length marks ≡ length marks₀) × Marked (entriesOf words amounts used) i marks
+Inv-loop words amounts used keys size tree states marks₀ i₀ marks i = (i ≤ used) × (length marks ≡ length marks₀) × Marked (entriesOf words amounts used) i marks
 
 abbrev μ-loop : tie.MeasureT-loop
-μ-loop words amounts used keys heads links order sorted states marks₀ i₀ marks i = used - i
+μ-loop words amounts used keys size tree states marks₀ i₀ marks i = used - i
 
 loop-holds : tie.Need-loop-holds Inv-loop μ-loop
-loop-holds c =
-    let s = c .before .before .before .before .before .before .before in
-    let a = s .args in (omega arith, refl, marked-none (entriesOf (now (a .words)) (now (a .amounts)) (a .used)) (now (a .marks)) (s .pre .1 .1 .1))
+loop-holds c = let s = c .before .before .before .before .before in let a = s .args in (omega arith, refl, marked-none (entriesOf (now (a .words)) (now (a .amounts)) (a .used)) (now (a .marks)) (s .pre .1 .1 .1))
 
 shared-slice-read-if1 : tie.Need-shared-slice-read-if1 Inv-loop μ-loop
 shared-slice-read-if1 c = search needs
@@ -34,16 +32,21 @@ entry-in-use-requires c κs = search needs
 
 cancelled-place-requires : tie.Need-cancelled-place-requires Inv-loop μ-loop
 cancelled-place-requires c κs =
-    let s = c .before .before .before .before .before .before .before .before .before .before .before .before in
+    let s = c .before .before .before .before .before .before .before .before .before .before in
     let less = c .before .before .before .loop-test .taken in
     let is = c .entry-in-use .ensures in
-    ((s .pre .0 .0, less), (s .pre .1 .0, (is, ap (λ (e : Entry). e .state) is ∙ sym (s .pre .1 .1 .0 _ less) ∙ c .before .if1 .taken)))
+    ((s .pre .0 .0, less, s .pre .0 .3), (s .pre .1 .0, (is, ap (λ (e : Entry). e .state) is ∙ sym (s .pre .1 .1 .0 _ less) ∙ c .before .if1 .taken)))
 
 same-length : tie.Need-same-length Inv-loop μ-loop
 same-length c = search needs
 
 returns : tie.Need-returns Inv-loop μ-loop
-returns c = λ e. absurd (omega arith)
+returns c =
+    let s = c .before .before .before .before .before .before .before .before .before .before .before .before in
+    let a = s .args in
+    let less = c .before .before .before .before .before .loop-test .taken in
+    let es = entriesOf (now (a .words)) (now (a .amounts)) (a .used) in
+    (λ e. let w : _≡_ {A = ℕ} 0 1 = cc in absurd (omega arith), λ _. unpaired-cancel es (a .used) (s .pre .1 .0 .1) (c .before .before .before .before .before .before .loop .i) less (sym (s .pre .1 .1 .0 _ less) ∙ c .before .before .before .if1 .taken) (c .before .cancelled-place .ensures .1 (c .if2 .taken)))
 
 mul-if3 : tie.Need-mul-if3 Inv-loop μ-loop
 mul-if3 c = search needs
@@ -55,7 +58,13 @@ same-length-2 : tie.Need-same-length-2 Inv-loop μ-loop
 same-length-2 c = search needs
 
 returns-2 : tie.Need-returns-2 Inv-loop μ-loop
-returns-2 c = λ e. absurd (omega arith)
+returns-2 c =
+    let s = c .before .before .before .before .before .before .before .before .before .before .before .before .before .before in
+    let a = s .args in
+    let p = c .before .before .before .before .before .before .before .before .loop in
+    let less = c .before .before .before .before .before .before .before .loop-test .taken in
+    let es = entriesOf (now (a .words)) (now (a .amounts)) (a .used) in
+    (λ e. let w : _≡_ {A = ℕ} 0 1 = cc in absurd (omega arith), λ _. marked-twice es (a .used) (s .pre .1 .0 .1) (p .i) (c .before .before .before .cancelled-place .result) (p .marks) less (p .inv .2) (c .before .before .before .cancelled-place .ensures .0 (c .before .before .if2 .left)) (c .if3 .taken))
 
 add-marks : tie.Need-add-marks Inv-loop μ-loop
 add-marks c = search needs
@@ -78,7 +87,7 @@ loop-less c = search needs
 loop-again : tie.Need-loop-again Inv-loop μ-loop
 loop-again c =
     let p = c .before .before .before .loop in
-    let s = c .before .before .before .before .before .before .before .before .before .before .before in
+    let s = c .before .before .before .before .before .before .before .before .before in
     let a = s .args in
     let es = entriesOf (now (a .words)) (now (a .amounts)) (a .used) in
     let state = s .pre .1 .1 .0 (p .i) (c .before .before .loop-test .taken) in
@@ -86,7 +95,7 @@ loop-again c =
     ⊎-elim
     (λ w.
     let j = w .2 .result in
-    let more = marked-more es (p .i) (p .marks) (p .inv .2) j (w .2 .ensures (w .3 .left)) (w .5 .left) (omega (arith, room, w .3 .left, s .pre .0)) in
+    let more = marked-more es (p .i) (p .marks) (p .inv .2) j (w .2 .ensures .0 (w .3 .left)) (w .5 .left) (omega (arith, room, w .3 .left, s .pre .0)) in
     (omega arith, ap length (w .6) ∙ simp length-set room, subst (λ (m : List ℕ). Marked es (p .i + 1) m) (sym (w .6)) more))
     (λ w.
     let kept = marked-kept es (p .i) (p .marks) (p .inv .2) (λ cancel. w .0 .left (state ∙ cancel)) in
@@ -99,9 +108,10 @@ same-length-3 c = search needs
 returns-3 : tie.Need-returns-3 Inv-loop μ-loop
 returns-3 c =
     let p = c .before .loop in
-    let a = c .before .before .before .before .before .before .before .before .before .args in
-    let z : p .i ≡ a .used = omega arith in
-    λ e. subst (λ (m : ℕ). Marked (entriesOf (now (a .words)) (now (a .amounts)) (a .used)) m (p .marks)) z (p .inv .2)
+    let a = c .before .before .before .before .before .before .before .args in
+    let es = entriesOf (now (a .words)) (now (a .amounts)) (a .used) in
+    let z : p .i ≡ a .used = omega (arith, c .loop-test .left, p .inv .0) in
+    (λ _. subst (λ (m : ℕ). Marked es m (p .marks)) z (p .inv .2), λ e. let w : _≡_ {A = ℕ} 0 1 = cc in absurd (omega arith))
 
 pub mark-cancelled-spec : {M : Type 1} → statement M
 mark-cancelled-spec =

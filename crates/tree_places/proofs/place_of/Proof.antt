@@ -1,0 +1,21 @@
+-- `tree_places::place_of` meets its contract: a search that ends at an empty slot says that no place has the value.
+-- Assumes nothing.
+use mathlib.Core.Path.{sym}
+use borrow.Author.Needs.{needs}
+use Rattle.tree_places.proofs.place_of.Statement.{statement}
+use Rattle.tree_places.proofs.place_of.Tie as tie
+
+search-requires : tie.Need-search-requires
+search-requires c κs = search needs
+
+returns : tie.Need-returns
+returns c = sym (c .before .search .ensures .none (c .if1 .taken))
+
+sub-result : tie.Need-sub-result
+sub-result c = search needs
+
+returns-2 : tie.Need-returns-2
+returns-2 c = sym (c .before .search .ensures .first (c .if1 .left))
+
+pub place-of-spec : {M : Type 1} → statement M
+place-of-spec = tie.close (tie.spec search-requires returns sub-result returns-2)

@@ -1,0 +1,77 @@
+-- `tree_places::search` meets its contract. The loop's invariant: the search has passed slots of other values; each step goes to a later place.
+-- Assumes nothing.
+use Prim.Native.Nat.{_+_, _-_, _*_, _%_}
+use mathlib.Core.Path.{_≡_, refl}
+use borrow.Author.Needs.{needs}
+use native.Mathlib.Omega.{arith}
+use Rattle.tree_places.proofs.Laws.{Walked, distance, walk-start, walk-more, walk-closer, walk-found, walk-end}
+use Rattle.tree_places.proofs.search.Statement.{statement}
+use Rattle.tree_places.proofs.search.Tie as tie
+
+abbrev Inv-loop : tie.InvT-loop
+Inv-loop values m size tree value slot₀ held₀ rest₀ slot held rest = Walked size values m tree value slot held rest
+
+abbrev μ-loop : tie.MeasureT-loop
+μ-loop values m size tree value slot₀ held₀ rest₀ slot held rest = distance m held
+
+bucket-requires : tie.Need-bucket-requires Inv-loop μ-loop
+bucket-requires c κs = search needs
+
+mul-held : tie.Need-mul-held Inv-loop μ-loop
+mul-held c = search needs
+
+shared-slice-read-held : tie.Need-shared-slice-read-held Inv-loop μ-loop
+shared-slice-read-held c = search needs
+
+cast-held : tie.Need-cast-held Inv-loop μ-loop
+cast-held c = omega (arith, c .shared-slice-known3 .given (c .before .bucket .result))
+
+loop-holds : tie.Need-loop-holds Inv-loop μ-loop
+loop-holds c = let s = c .before .before .before .before in walk-start _ _ _ _ (s .pre .1) _ _ (c .before .bucket .ensures .0) (c .before .bucket .ensures .1)
+
+sub-if1 : tie.Need-sub-if1 Inv-loop μ-loop
+sub-if1 c = search needs
+
+mul-if1 : tie.Need-mul-if1 Inv-loop μ-loop
+mul-if1 c = search needs
+
+shared-slice-read-if1 : tie.Need-shared-slice-read-if1 Inv-loop μ-loop
+shared-slice-read-if1 c = omega (arith, c .before .before .loop .inv .few)
+
+returns : tie.Need-returns Inv-loop μ-loop
+returns c = let s = c .before .before .before .before .before .before .before .before in walk-found _ _ _ _ (s .pre .1) _ (c .before .before .before .loop .inv) (c .before .before .loop-test .taken) (c .if1 .taken) _ refl refl
+
+sub-slot : tie.Need-sub-slot Inv-loop μ-loop
+sub-slot c = search needs
+
+mul-slot : tie.Need-mul-slot Inv-loop μ-loop
+mul-slot c = omega (arith, c .before .before .before .loop .inv .few)
+
+add-slot : tie.Need-add-slot Inv-loop μ-loop
+add-slot c = omega (arith, c .before .before .before .loop .inv .few)
+
+add-slot-2 : tie.Need-add-slot-2 Inv-loop μ-loop
+add-slot-2 c = omega (arith, c .before .before .before .loop .inv .few)
+
+mul-held-2 : tie.Need-mul-held-2 Inv-loop μ-loop
+mul-held-2 c = omega (arith, c .before .before .before .loop .inv .few)
+
+shared-slice-read-held-2 : tie.Need-shared-slice-read-held-2 Inv-loop μ-loop
+shared-slice-read-held-2 c = omega (arith, c .before .before .before .before .loop .inv .few)
+
+cast-held-2 : tie.Need-cast-held-2 Inv-loop μ-loop
+cast-held-2 c =
+    let p = c .before .before .before .before .loop in
+    omega (arith, c .shared-slice-known5 .given (c .before .before .before .before .before .before .before .before .before .args .size + 2 * (p .held - 1) + p .rest % 2))
+
+loop-less : tie.Need-loop-less Inv-loop μ-loop
+loop-less c = let s = c .before .before .before .before .before .before .before .before .before in walk-closer _ _ _ _ (s .pre .1) _ (c .before .before .before .before .loop .inv) (c .before .before .before .loop-test .taken) _ refl
+
+loop-again : tie.Need-loop-again Inv-loop μ-loop
+loop-again c = let s = c .before .before .before .before .before .before .before .before .before in walk-more _ _ _ _ (s .pre .1) _ (c .before .before .before .before .loop .inv) (c .before .before .before .loop-test .taken) (c .before .if1 .left) _ refl
+
+returns-2 : tie.Need-returns-2 Inv-loop μ-loop
+returns-2 c = let s = c .before .before .before .before .before .before in walk-end _ _ _ _ (s .pre .1) _ (c .before .loop .inv) (c .loop-test .left) _ refl refl
+
+pub search-spec : {M : Type 1} → statement M
+search-spec = tie.close (tie.spec Inv-loop μ-loop bucket-requires mul-held shared-slice-read-held cast-held loop-holds sub-if1 mul-if1 shared-slice-read-if1 returns sub-slot mul-slot add-slot add-slot-2 mul-held-2 shared-slice-read-held-2 cast-held-2 loop-less loop-again returns-2)
