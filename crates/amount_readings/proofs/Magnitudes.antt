@@ -29,7 +29,7 @@ use Rattle.leading_bytes.proofs.Runs.{run-bound}
 use Rattle.amount_readings.specs.AmountReadings.{signedOf, WholeRead, MagnitudeRead, NegativeRead}
 
 -- ---- where the point stands
-not-point : (b : ℕ) (s : List ℕ) → isDigit b && allDigits s ≡ true → (eqb b 46 ≡ false) × (allDigits s ≡ true)
+pub not-point : (b : ℕ) (s : List ℕ) → isDigit b && allDigits s ≡ true → (eqb b 46 ≡ false) × (allDigits s ≡ true)
 not-point b s d =
     let q = both-true (isDigit b) (allDigits s) d in
     let low : 48 ≤ b = leb-true 48 b (both-true (leb 48 b) (leb b 57) (q .0) .0) in

@@ -3,7 +3,7 @@
 use Prim.Native.Nat.{ℕ, _+_, _*_, _/_, _%_, _^_, _≤_, _<_}
 use mathlib.Core.Path.{_≡_}
 use mathlib.Core.List.{List}
-use mathlib.Core.Bool.{true}
+use mathlib.Core.Bool.{true, false}
 use lib.IntN.{ℤ}
 use lib.ListN.{length, take, drop}
 use lib.Dec.{eqb}
@@ -30,9 +30,20 @@ pub record WholeRead (s : List ℕ) (w p whole : ℕ) : Type 0 where
   pub few : p ≤ whole
   pub digits : allDigits (take p s) ≡ true
   pub value : w ≡ numberOf (take p s)
+  pub longest : (m : ℕ) → m ≤ length s → m ≤ 15 → allDigits (take m s) ≡ true → m ≤ p
 
 -- what is read of an amount with a minus at the start of s
 pub record NegativeRead (whole places : ℕ) (s : List ℕ) (r : Reading) : Type 0 where
   pub ends : r .len ≡ fieldEnd s
   pub fits : isUnsigned whole places (drop 1 (leadingField s)) ≡ true
   pub says : whole + places ≤ 15 → r .number ≡ unitsOf places (drop 1 (leadingField s)) * 2 + 1
+
+-- whether an amount without its sign stands at the start of s, and then what is read of it
+abbrev pub MagnitudeTold : ℕ → ℕ → List ℕ → Reading → Type 0
+MagnitudeTold whole places s r =
+    (r .fits ≡ true → MagnitudeRead whole places s r) × (r .fits ≡ false → isUnsigned whole places (leadingField s) ≡ false)
+
+-- the same of one with a minus
+abbrev pub NegativeTold : ℕ → ℕ → List ℕ → Reading → Type 0
+NegativeTold whole places s r =
+    (r .fits ≡ true → NegativeRead whole places s r) × (r .fits ≡ false → isUnsigned whole places (drop 1 (leadingField s)) ≡ false)

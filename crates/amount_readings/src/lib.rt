@@ -1,10 +1,9 @@
 // Amounts at the start of a line's bytes, read in one pass: where the field ends, whether it has the shape of an amount, and what it says as one number.
-// A reading that fits is certain; where it doesn't fit, nothing is known.
+// A reading is certain: it fits where the field is such an amount, and where it is none it does not.
 ghost use mathlib.Core.Path.{_≡_};
-ghost use mathlib.Core.Bool.{true};
 ghost use Prim.Native.Nat.{_+_, _*_, _-_, _^_, _≤_, _<_};
 ghost use lib.ListN.{length, getD};
-ghost use Rattle.amount_readings.specs.AmountReadings.{signedOf, WholeRead, MagnitudeRead, NegativeRead};
+ghost use Rattle.amount_readings.specs.AmountReadings.{signedOf, WholeRead, MagnitudeTold, NegativeTold};
 use leading_bytes::Reading;
 use leading_bytes::misses;
 use leading_bytes::reads;
@@ -25,8 +24,8 @@ fn scaled(w: u64, f: u64, q: usize, whole: usize, places: usize) -> u64
 
 // The whole part of an amount, which ends the field, or the whole part and what stands after the point at p.
 fn read_places(s: &[u8], w: u64, p: usize, whole: usize, places: usize) -> Reading
-    requires { ⌜ WholeRead (now s) w p whole ⌝ }
-    ensures { λ r. ⌜ (r .fits ≡ true → MagnitudeRead whole places (now (s .entry)) r) ⌝ }
+    requires { ⌜ WholeRead (now s) w p whole × (whole ≤ 15) × (places ≤ 15) ⌝ }
+    ensures { λ r. ⌜ MagnitudeTold whole places (now (s .entry)) r ⌝ }
 {
     let next = leading_bytes::next_byte(s, p);
     if next == 44 {
@@ -51,7 +50,8 @@ fn read_places(s: &[u8], w: u64, p: usize, whole: usize, places: usize) -> Readi
 
 // An amount without its sign.
 pub fn read_magnitude(s: &[u8], whole: usize, places: usize) -> Reading
-    ensures { λ r. ⌜ (r .fits ≡ true → MagnitudeRead whole places (now (s .entry)) r) ⌝ }
+    requires { ⌜ (whole ≤ 15) × (places ≤ 15) ⌝ }
+    ensures { λ r. ⌜ MagnitudeTold whole places (now (s .entry)) r ⌝ }
 {
     let run = leading_bytes::leading_digits(s);
     let p = run.len;
@@ -66,8 +66,8 @@ pub fn read_magnitude(s: &[u8], whole: usize, places: usize) -> Reading
 
 // An amount after its minus.
 pub fn read_negative(s: &[u8], whole: usize, places: usize) -> Reading
-    requires { ⌜ (0 < length (now s)) × (getD (now s) 0 0 ≡ 45) ⌝ }
-    ensures { λ r. ⌜ (r .fits ≡ true → NegativeRead whole places (now (s .entry)) r) ⌝ }
+    requires { ⌜ (0 < length (now s)) × (getD (now s) 0 0 ≡ 45) × (whole ≤ 15) × (places ≤ 15) ⌝ }
+    ensures { λ r. ⌜ NegativeTold whole places (now (s .entry)) r ⌝ }
 {
     let size = read_magnitude(&s[1..], whole, places);
     let fits = size.fits;

@@ -133,8 +133,20 @@ filled-above site day filled = omega (arith, filled)
 parts-tell : (x y u v : ℕ) → u < 4194304 → v < 4194304 → x * 4194304 + u ≡ y * 4194304 + v → (x ≡ y) × (u ≡ v)
 parts-tell x y u v p q e = (omega arith, omega arith)
 
-shift-tells : (k u v : ℕ) → u < 4194304 → v < 4194304 → (u + k) % 4194304 ≡ (v + k) % 4194304 → u ≡ v
-shift-tells k u v p q e = omega arith
+-- an odd number, of which a multiple is 1 past one of 2^22, tells the lower parts apart
+scaled : (u b : ℕ) → (u * 2592181 + b * 4194304) * 1357981 ≡ (u * 839265 + b * 1357981) * 4194304 + u
+scaled u b = omega arith
+
+crossed : (k u v : ℕ) → (u * 2592181 + k) % 4194304 ≡ (v * 2592181 + k) % 4194304
+    → u * 2592181 + (v * 2592181 + k) / 4194304 * 4194304 ≡ v * 2592181 + (u * 2592181 + k) / 4194304 * 4194304
+crossed k u v e = omega arith
+
+shift-tells : (k u v : ℕ) → u < 4194304 → v < 4194304 → (u * 2592181 + k) % 4194304 ≡ (v * 2592181 + k) % 4194304 → u ≡ v
+shift-tells k u v p q e =
+    let a = (u * 2592181 + k) / 4194304 in
+    let b = (v * 2592181 + k) / 4194304 in
+    parts-tell (u * 839265 + b * 1357981) (v * 839265 + a * 1357981) u v p q
+    (sym (scaled u b) ∙ ap (λ (z : ℕ). z * 1357981) (crossed k u v e) ∙ scaled v a) .1
 
 small-upper : (s : ℕ) → s < 10 ^ 13 → s / 4194304 % 4194304 ≡ s / 4194304
 small-upper s p = omega arith
@@ -146,7 +158,7 @@ pub spread-tells : (s t : ℕ) → s < 10 ^ 13 → t < 10 ^ 13 → spread s ≡ 
 unfolding spread
 spread-tells s t p q e = whole s t upper lower
   where
-    both : ((s % 4194304 + s / 4194304 * 1296111) % 4194304 ≡ (t % 4194304 + t / 4194304 * 1296111) % 4194304) × (s / 4194304 % 4194304 ≡ t / 4194304 % 4194304)
+    both : ((s % 4194304 * 2592181 + s / 4194304 * 1296111) % 4194304 ≡ (t % 4194304 * 2592181 + t / 4194304 * 1296111) % 4194304) × (s / 4194304 % 4194304 ≡ t / 4194304 % 4194304)
     both = parts-tell _ _ _ _ (below-22 (s / 4194304)) (below-22 (t / 4194304)) e
 
     upper : s / 4194304 ≡ t / 4194304
@@ -155,7 +167,7 @@ spread-tells s t p q e = whole s t upper lower
     lower : s % 4194304 ≡ t % 4194304
     lower =
         shift-tells (t / 4194304 * 1296111) (s % 4194304) (t % 4194304) (below-22 s) (below-22 t)
-        (ap (λ (k : ℕ). (s % 4194304 + k * 1296111) % 4194304) (sym upper) ∙ both .0)
+        (ap (λ (k : ℕ). (s % 4194304 * 2592181 + k * 1296111) % 4194304) (sym upper) ∙ both .0)
 
     whole : (x y : ℕ) → x / 4194304 ≡ y / 4194304 → x % 4194304 ≡ y % 4194304 → x ≡ y
     whole x y a b = omega arith

@@ -7,9 +7,10 @@ use Prim.Native.Nat.{ℕ, _+_, _*_, _/_, _%_, _≤_, _<_, min}
 use lib.ListN.{getD}
 use Rattle.lists.specs.Below.{countBelow}
 
--- another number for a site, below 2^44: the lower 22 bits, and with them the upper ones, come first. Sites below 2^44 have a number of their own
+-- another number for a site, below 2^44: the lower 22 bits, times an odd number, and with them the upper ones, come first.
+-- Sites below 2^44 have a number of their own
 unfoldable pub spread : ℕ → ℕ
-spread site = (site % 4194304 + site / 4194304 * 1296111) % 4194304 * 4194304 + site / 4194304 % 4194304
+spread site = (site % 4194304 * 2592181 + site / 4194304 * 1296111) % 4194304 * 4194304 + site / 4194304 % 4194304
 
 -- a day of a site as one number, which does not fall where the day rises. Sites below 2^44 and days below 2^16 have a number of their own
 unfoldable pub dayNumber : ℕ → ℕ → ℕ

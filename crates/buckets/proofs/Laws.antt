@@ -1,5 +1,6 @@
 -- Buckets hold the first place of every value.
 --     first-is, first-within      what the first place is; where the test holds at i, nothing from i on matters
+--     same-place                  values with the same first place are the same
 --     indexed-none, indexed-more, indexed-new    the index, at the start, with one place more, and with one that leads itself
 --     led-more, distinct-more     the leaders, and that no value repeats, with one place more
 --     bucket-fits, bucket-below   the numbers that a bucket is computed with
@@ -9,7 +10,7 @@
 use mathlib.Core.Path.{_≡_, refl, sym, _∙_, ap, subst}
 use mathlib.Core.List.{List}
 use mathlib.Core.Bool.{Bool, true, false, cond}
-use Prim.Native.Nat.{ℕ, zero, suc, _+_, _-_, _*_, _/_, _≤_, _<_}
+use Prim.Native.Nat.{ℕ, _+_, _-_, _*_, _/_, _≤_, _<_}
 use native.Mathlib.Nat.{le-refl, not-suc-le-zero, mul-comm, mul-le-mul, mul-lt-mul-of-pos-right, div-lt-iff-lt-mul}
 use native.Mathlib.Omega.{arith}
 use native.Mathlib.Decide.{decLt}
@@ -18,6 +19,7 @@ use lib.Dec.{eqb}
 use lib.ListN.{length, length-set, getD, set, replicate}
 use lib.Seq.{getD-set-same, getD-set-other, set-getD}
 use Rattle.lists.specs.Below.{firstBelow}
+use Rattle.lists.proofs.Column.{everywhere}
 use Rattle.lists.proofs.Below.{first-at-most, first-holds, first-least, none-below, none-is-end}
 use Rattle.buckets.specs.Buckets.{firstPlace, Leads, Led, Distinct, bucketOf, bucketAt, Latest, Headed, Linked, Indexed}
 
@@ -43,9 +45,20 @@ module _ (f : ℕ → Bool) (n : ℕ) where
           let q : firstBelow f i ≡ i = omega (arith, l, first-at-most f i) in
           first-is i h e (none-below f i q) ∙ sym q
 
--- ---- one place more
 abbrev here : List ℕ → ℕ → ℕ → Bool
 here values x j = eqb (getD values j 0) x
+
+module _ (values : List ℕ) (n : ℕ) where
+  value-found : (k : ℕ) → k < n → firstPlace values n (getD values k 0) < n
+  value-found k h = let f = here values (getD values k 0) in omega (arith, first-within f n k h (eq-eqb (getD values k 0) (getD values k 0) refl), first-at-most f k)
+
+  pub same-place : (x k : ℕ) → k < n → firstPlace values n x ≡ firstPlace values n (getD values k 0) → x ≡ getD values k 0
+  same-place x k h e =
+      sym (eqb-true _ x (first-holds (here values x) n (omega (arith, e, value-found k h))))
+      ∙ ap (λ (p : ℕ). getD values p 0) e
+      ∙ eqb-true _ (getD values k 0) (first-holds (here values (getD values k 0)) n (value-found k h))
+
+-- ---- one place more
 
 module _ (size : ℕ) (values : List ℕ) where
   latest-kept : (b i k : ℕ) → Latest size values b i k → (Leads values i → bucketAt size values i ≡ b → ⊥) → Latest size values b (i + 1) k
@@ -223,6 +236,4 @@ bucket-below h size few some = div-lt-iff-lt-mul {k = 4294967296} (omega arith) 
 
 -- ---- an array of zeros has no place in any bucket
 pub zeros : (n b : ℕ) → _≡_ {A = ℕ} (getD (replicate n 0) b 0) 0
-zeros zero b = refl
-zeros (suc n) zero = refl
-zeros (suc n) (suc b) = zeros n b
+zeros n b = everywhere 0 n b

@@ -3,11 +3,11 @@
 --     same-fields, type-is, field-of, stands-at    a line whose fields are read: its record's fields, its type, and field k of it
 --     field-printable, text-number       a field is printable, and a short text's number is that of its bytes
 --     either-is                          a test on the number of a field is a test on its text
---     codes-pass                         so a line whose numbers pass test 7 passes it
+--     codes-exact                        so the numbers of a line pass test 7 exactly where the line does
 -- Assumes nothing.
 use mathlib.Core.Path.{_≡_, refl, sym, _∙_, ap, subst}
 use mathlib.Core.List.{List, []}
-use mathlib.Core.Bool.{Bool, true, false, not, _&&_, _||_}
+use mathlib.Core.Bool.{Bool, true, false, not, _&&_, _||_, Bool·not-not}
 use Prim.Native.Nat.{ℕ, zero, suc, _<_}
 use native.Mathlib.Numerals.{add-one}
 use native.Mathlib.Omega.{arith}
@@ -16,18 +16,15 @@ use lib.ListN.{getD}
 use Rattle.lists.specs.Bytes.{sameBytes}
 use Rattle.lists.specs.Written.{written}
 use Rattle.text.specs.Text.{fieldsOf}
-use Rattle.digits.proofs.Laws.{both-true}
 use Rattle.types.specs.Types.{typeNamed}
 use Rattle.records.specs.Records.{recordFields, field, typeIn}
 use Rattle.records.proofs.Laws.{fields-few, field-at}
 use Rattle.tables.specs.Tables.{fieldCount, fieldType}
 use Rattle.tables.proofs.Laws.{count-most}
 use Rattle.format.specs.Format.{commodityFields, unitFields, cancelFields, exemptionFields, neither, miscoded}
-use Rattle.coded_fields.specs.Steps.{unitIf}
 use Rattle.leading_bytes.specs.LeadingBytes.{packed}
-use Rattle.line_readings.specs.LineReadings.{FieldStands, fieldAfter, NumbersRead}
-use Rattle.codes_and_rows.specs.Numbers.{isEither, codesStand}
-use Rattle.line_readings.proofs.Heads.{never}
+use Rattle.codes_and_rows.specs.Fields.{FieldFits, fieldAfter, NumbersRead}
+use Rattle.codes_and_rows.specs.Numbers.{isEither, codesStand, unitIf}
 use Rattle.codes_and_rows.proofs.Texts.{Printable, printable-text, printable-field, packed-is}
 use Rattle.codes_and_rows.proofs.FieldKinds.{hasKind, kind-at, isShortText, says-text, commodity-kind, unit-kind, cancel-kind, exemption-kind}
 
@@ -36,10 +33,16 @@ unfolding unitIf
 unit-printable true = printable-text (written "KWH") tt
 unit-printable false = printable-text (written "GJ") tt
 
-passes : (none same : Bool) → none || same ≡ true → not none && not same ≡ false
-passes true same e = refl
-passes false true e = refl
-passes false false e = never e
+-- neither of two, and none of four
+not-neither : (none same : Bool) → none || same ≡ not (not none && not same)
+not-neither true same = refl
+not-neither false same = sym (Bool·not-not same)
+
+not-any : (a b c d : Bool) → not a && (not b && (not c && not d)) ≡ not (a || (b || (c || d)))
+not-any true b c d = refl
+not-any false true c d = refl
+not-any false false true d = refl
+not-any false false false d = refl
 
 module _ {type : ℕ} {line numbers : List ℕ} (read : NumbersRead type line numbers) (known : type < 9) where
   pub same-fields : recordFields line ≡ fieldsOf line
@@ -53,8 +56,8 @@ module _ {type : ℕ} {line numbers : List ℕ} (read : NumbersRead type line nu
   unfolding field
   field-of j = ap (λ (fields : List (List ℕ)). getD fields j []) same-fields
 
-  pub stands-at : (j : ℕ) → j < fieldCount type → FieldStands type j (field (suc j) line) (getD numbers (suc j) 0)
-  stands-at j h = rw (field-of j) (subst (λ (k : ℕ). FieldStands type j (fieldAfter line j) (getD numbers k 0)) (add-one j) (read .stands j h))
+  pub stands-at : (j : ℕ) → j < fieldCount type → FieldFits type j (field (suc j) line) (getD numbers (suc j) 0)
+  stands-at j h = rw (field-of j) (subst (λ (k : ℕ). FieldFits type j (fieldAfter line j) (getD numbers k 0)) (add-one j) (read .stands j h))
 
   module _ (printable : Printable line) where
     pub field-printable : (j : ℕ) → Printable (field (suc j) line)
@@ -72,23 +75,21 @@ module _ {type : ℕ} {line numbers : List ℕ} (read : NumbersRead type line nu
         rw (text-number j t, packed-is (field (suc j) line) one (field-printable j) p, packed-is (field (suc j) line) two (field-printable j) q)
 
     module _ (named : typeIn line ≡ type) where
-      code-passes : (table one two : List ℕ) → Printable one → Printable two → T (hasKind isShortText type (getD table type 0)) → isEither (getD table type 0) numbers one two ≡ true
-          → neither table one two line ≡ false
+      code-exact : (table one two : List ℕ) → Printable one → Printable two → T (hasKind isShortText type (getD table type 0))
+          → isEither (getD table type 0) numbers one two ≡ not (neither table one two line)
       unfolding neither
-      code-passes table one two p q kind e =
+      code-exact table one two p q kind =
           rw named
-          (passes (eqb (getD table type 0) 0) (sameBytes (field (getD table type 0) line) one || sameBytes (field (getD table type 0) line) two)
-          (sym (either-is one two p q (getD table type 0) kind) ∙ e))
+          (either-is one two p q (getD table type 0) kind
+          ∙ not-neither (eqb (getD table type 0) 0) (sameBytes (field (getD table type 0) line) one || sameBytes (field (getD table type 0) line) two))
 
-      pub codes-pass : (electricity : Bool) → codesStand (unitIf electricity) type numbers ≡ true → miscoded (unitIf electricity) line ≡ false
+      pub codes-exact : (electricity : Bool) → codesStand (unitIf electricity) type numbers ≡ not (miscoded (unitIf electricity) line)
       unfolding codesStand miscoded
-      codes-pass electricity e =
-          let first = both-true (isEither (getD commodityFields type 0) numbers (written "EL") (written "NG")) _ e in
-          let second = both-true (isEither (getD unitFields type 0) numbers (unitIf electricity) (unitIf electricity)) _ (first .1) in
-          let third = both-true (isEither (getD cancelFields type 0) numbers (written "Y") (written "N")) _ (second .1) in
+      codes-exact electricity =
           rw (
-            code-passes commodityFields (written "EL") (written "NG") (printable-text (written "EL") tt) (printable-text (written "NG") tt) (commodity-kind type known) (first .0),
-            code-passes unitFields (unitIf electricity) (unitIf electricity) (unit-printable electricity) (unit-printable electricity) (unit-kind type known) (second .0),
-            code-passes cancelFields (written "Y") (written "N") (printable-text (written "Y") tt) (printable-text (written "N") tt) (cancel-kind type known) (third .0),
-            code-passes exemptionFields (written "Y") (written "N") (printable-text (written "Y") tt) (printable-text (written "N") tt) (exemption-kind type known) (third .1),
+            code-exact commodityFields (written "EL") (written "NG") (printable-text (written "EL") tt) (printable-text (written "NG") tt) (commodity-kind type known),
+            code-exact unitFields (unitIf electricity) (unitIf electricity) (unit-printable electricity) (unit-printable electricity) (unit-kind type known),
+            code-exact cancelFields (written "Y") (written "N") (printable-text (written "Y") tt) (printable-text (written "N") tt) (cancel-kind type known),
+            code-exact exemptionFields (written "Y") (written "N") (printable-text (written "Y") tt) (printable-text (written "N") tt) (exemption-kind type known),
           )
+          (not-any (neither commodityFields (written "EL") (written "NG") line) (neither unitFields (unitIf electricity) (unitIf electricity) line) (neither cancelFields (written "Y") (written "N") line) (neither exemptionFields (written "Y") (written "N") line))

@@ -7,7 +7,7 @@
 -- Assumes nothing.
 use mathlib.Core.Path.{_≡_, refl, _∙_, ap, subst}
 use mathlib.Core.List.{List, []}
-use mathlib.Core.Bool.{Bool, true, false, cond, _&&_, _||_}
+use mathlib.Core.Bool.{Bool, true, false, cond, _&&_, _||_, false≢true}
 use Prim.Native.Nat.{ℕ, zero, suc, _-_, _≤_, _<_}
 use native.Mathlib.Omega.{arith}
 use borrow.Author.Tests.{lt-ltb, le-leb}
@@ -19,7 +19,6 @@ use Rattle.digits.specs.Digits.{digitsOf}
 use Rattle.calendar.specs.Calendar.{dayOf}
 use Rattle.amounts.specs.Amounts.{pointOf, isUnsigned, hasMinus, unsigned, isNumber, unitsOf, signed, amountOf, units}
 use Rattle.amounts.specs.declared.Amount.the-variants.{Value as Units, Misses}
-use Rattle.line_readings.proofs.Heads.{never}
 use Rattle.amounts.proofs.Shape.{unsigned-say}
 use Rattle.fields.specs.declared.FieldType.{FieldType}
 use Rattle.fields.specs.declared.FieldType.the-variants.{RecordId, Digits, Number, Date, DateTime, Char, Varchar}
@@ -147,7 +146,7 @@ same-amount p f low high e = go (eqb (length f) 0) (isUnsigned (p - 4) 4 (unsign
         ≡ cond empty (Units (pos 0)) (cond (leb 14 15 && isUnsigned (14 - 4) 4 (unsigned f)) (Units (signed (hasMinus f) (unitsOf 4 (unsigned f)))) Misses)
     go true fit q r = refl
     go false true q r = rw (le-leb p 15 (omega arith), wider (p - 4) 10 4 (unsigned f) (omega arith) q)
-    go false false q r = never r
+    go false false q r = absurd (false≢true r)
 
 module _ (f : List ℕ) (n : ℕ) where
   pub says-usage : (t : FieldType) → T (isUsage t) → fitsType t f ≡ true → Says t f n → signedOf n ≡ units (amountOf 14 4 f)

@@ -1,23 +1,25 @@
 -- The numbers that the columns hold of a record, one column after the other.
---     field-small              a column's field is below 24
---     HeldTo, held-none, held-more    a loop that reads the numbers of the columns before the Cancel Indicator's
---     held-yes, held-no        and then that of the Cancel Indicator, Y or another
+--     field-small                  a column's field is below 24
+--     stored-after                 storing goes on in words in which some of it stands
+--     stored-type, type-stored     the type is stored
+--     stored-number, stored-yes, stored-no    the numbers of the columns before the Cancel Indicator's, and that of this one, Y or another
 -- Assumes nothing.
-use mathlib.Core.Path.{_≡_, refl, sym, _∙_}
+use mathlib.Core.Path.{_≡_, refl, sym, _∙_, ap, subst}
 use mathlib.Core.List.{List, []}
 use mathlib.Core.Bool.{Bool, true, false, cond, _&&_}
-use Prim.Native.Nat.{ℕ, zero, suc, _+_, _≤_, _<_}
+use Prim.Native.Nat.{ℕ, _+_, _*_, _≤_, _<_}
+use native.Mathlib.Nat.{zero-mul, zero-add}
 use native.Mathlib.Omega.{arith}
-use borrow.Author.Count.{below-more}
 use borrow.Author.Tests.{eq-eqb, ne-eqb, ltb-true}
 use lib.Dec.{T, ltb}
-use lib.ListN.{length, getD, set, replicate, length-set}
-use lib.Seq.{getD-set-same, getD-set-other}
-use Rattle.lists.proofs.Table.{every}
+use lib.ListN.{length, getD, set}
+use Rattle.lists.proofs.AllBelow.{at-below}
+use Rattle.lists.proofs.Table.{every, tabulate-at}
 use Rattle.columns.specs.Columns.{fieldTable, fieldOf}
+use Rattle.columns.specs.Rows.{RowStored}
+use Rattle.columns.proofs.Rows.{row-none, row-more}
 use Rattle.leading_bytes.specs.LeadingBytes.{packedAfter}
-use Rattle.codes_and_rows.specs.Numbers.{numberOfField, columnNumber}
-use Rattle.line_readings.proofs.Heads.{at-below}
+use Rattle.codes_and_rows.specs.Numbers.{fieldNumber, columnNumber, columnNumbers}
 use Rattle.codes_and_rows.proofs.CodeFields.{small-at}
 
 -- ---- the columns' fields
@@ -36,41 +38,39 @@ field-small column type = go (ltb column 10) (ltb type 9) refl
         (at-below RowSmall 10 ((((((((((tt, tt), tt), tt), tt), tt), tt), tt), tt), tt), tt) column (ltb-true column 10 e))
         (omega arith) type
 
--- ---- the numbers of the columns before `count`
+-- ---- what is stored of a record of a type
+-- into words in which some of it stands already
+pub stored-after : {room i m n : ℕ} {before between after numbers : List ℕ} → RowStored room before i numbers m between → RowStored room between i numbers n after → RowStored room before i numbers n after
+stored-after first then =
+    record { size = then .size ∙ first .size; here = then .here; other = λ column k h other. then .other column k h other ∙ first .other column k h other }
+
 module _ (type : ℕ) (numbers : List ℕ) where
-  pub record HeldTo (count : ℕ) (held : List ℕ) : Type 0 where
-    pub size : length held ≡ 8
-    pub at : (column : ℕ) → column < count → getD held column 0 ≡ columnNumber column type numbers
-    pub last : getD held 7 0 ≡ 0
+  stored-at : (column : ℕ) → column < 8 → getD (columnNumbers type numbers) column 0 ≡ columnNumber type numbers column
+  stored-at column h = tabulate-at (columnNumber type numbers) 8 column h
 
-  pub held-none : HeldTo 1 (set (replicate 8 0) 0 type)
-  unfolding columnNumber
-  held-none = record { size = refl; at = at; last = refl }
-    where
-      at : (column : ℕ) → column < 1 → getD (set (replicate 8 0) 0 type) column 0 ≡ columnNumber column type numbers
-      at zero h = refl
-      at (suc column) h = absurd (omega arith)
+  -- the type, whose column is the first
+  module _ (room i : ℕ) (words : List ℕ) (small : i < room) (inside : i < length words) where
+    pub stored-type : RowStored room words i (columnNumbers type numbers) 1 (set words i type)
+    unfolding columnNumber
+    stored-type =
+        let place : 0 * room + i ≡ i = ap (λ (k : ℕ). k + i) (zero-mul room) ∙ zero-add i in
+        subst (λ (k : ℕ). RowStored room words i (columnNumbers type numbers) 1 (set words k type)) place
+        (row-more (row-none room words i (columnNumbers type numbers)) small (omega (arith, place)) type (sym (stored-at 0 (omega arith))))
 
-  pub held-more : {column : ℕ} {held : List ℕ} → HeldTo column held → 1 ≤ column → column < 7 → (x : ℕ) → x ≡ numberOfField numbers (fieldOf column type) → HeldTo (column + 1) (set held column x)
+    pub type-stored : RowStored room (set words i type) i (columnNumbers type numbers) 1 (set words i type)
+    type-stored = record { size = refl; here = stored-type .here; other = λ column k h other. refl }
+
+  pub stored-number : (column x : ℕ) → 1 ≤ column → column < 7 → x ≡ fieldNumber type numbers column → x ≡ getD (columnNumbers type numbers) column 0
   unfolding columnNumber
-  held-more {column} {held} r some few x e =
-      record {
-        size = length-set held column x ∙ r .size;
-        at = below-more (λ (c : ℕ). getD (set held column x) c 0 ≡ columnNumber c type numbers) column
-            (λ c h. getD-set-other held column c x 0 (λ q. omega (arith, q)) ∙ r .at c h)
-            (getD-set-same held column x 0 (omega (arith, r .size)) ∙ e ∙ sym (rw (ne-eqb column 0 (λ q. omega (arith, q)), ne-eqb column 7 (λ q. omega (arith, q)))));
-        last = getD-set-other held column 7 x 0 (λ q. omega (arith, q)) ∙ r .last;
-      }
+  stored-number column x some few e =
+      e ∙ sym (stored-at column (omega arith) ∙ rw (ne-eqb column 0 (λ q. omega (arith, q)), ne-eqb column 7 (λ q. omega (arith, q))))
 
   -- the Cancel Indicator's number is n
-  module _ {held : List ℕ} (r : HeldTo 7 held) (n : ℕ) (e : n ≡ numberOfField numbers (fieldOf 7 type)) where
-    pub held-yes : n ≡ 89 → (column : ℕ) → column < 8 → getD (set held 7 1) column 0 ≡ columnNumber column type numbers
+  module _ (n : ℕ) (e : n ≡ fieldNumber type numbers 7) where
+    pub stored-yes : n ≡ 89 → 1 ≡ getD (columnNumbers type numbers) 7 0
     unfolding columnNumber packedAfter
-    held-yes q =
-        below-more (λ (c : ℕ). getD (set held 7 1) c 0 ≡ columnNumber c type numbers) 7
-        (λ c h. getD-set-other held 7 c 1 0 (λ p. omega (arith, p)) ∙ r .at c h)
-        (getD-set-same held 7 1 0 (omega (arith, r .size)) ∙ sym (rw (eq-eqb _ 89 (sym e ∙ q))))
+    stored-yes q = sym (stored-at 7 (omega arith) ∙ rw (eq-eqb (fieldNumber type numbers 7) 89 (sym e ∙ q)))
 
-    pub held-no : (n ≡ 89 → ⊥) → (column : ℕ) → column < 8 → getD held column 0 ≡ columnNumber column type numbers
+    pub stored-no : (n ≡ 89 → ⊥) → 0 ≡ getD (columnNumbers type numbers) 7 0
     unfolding columnNumber packedAfter
-    held-no q = below-more (λ (c : ℕ). getD held c 0 ≡ columnNumber c type numbers) 7 (r .at) (r .last ∙ sym (rw (ne-eqb _ 89 (λ p. q (e ∙ p)))))
+    stored-no q = sym (stored-at 7 (omega arith) ∙ rw (ne-eqb (fieldNumber type numbers 7) 89 (λ p. q (e ∙ p))))

@@ -1,15 +1,15 @@
 -- The columns by numbers are the columns of the line.
 --     id-column, date-column, cancel-column, charge-column, usage-column    what field k of a kind says
---     row-read    so a row that is made of the numbers is that of the line
+--     numbers-same, charge-same, usage-same    so what the numbers put into the columns is what these hold of the line
 -- Assumes nothing.
 use mathlib.Core.Path.{_≡_, refl, sym, _∙_, ap}
 use mathlib.Core.List.{List}
 use mathlib.Core.Bool.{Bool, cond}
 use Prim.Native.Nat.{ℕ, zero, suc, _<_}
-use native.Mathlib.Omega.{arith}
-use borrow.Author.Tests.{ne-eqb}
 use lib.Dec.{T, eqb, lit<}
 use lib.ListN.{getD}
+use Rattle.lists.proofs.AllBelow.{AllBelow, at-below}
+use Rattle.lists.proofs.Table.{tabulate-at}
 use Rattle.lists.specs.Bytes.{sameBytes}
 use Rattle.lists.specs.Written.{written}
 use Rattle.digits.specs.Digits.{digitsOf}
@@ -17,63 +17,56 @@ use Rattle.calendar.specs.Calendar.{dayOf}
 use Rattle.amounts.specs.Amounts.{amountOf, units}
 use Rattle.records.specs.Records.{field, typeIn}
 use Rattle.tables.specs.Tables.{fieldCount, fieldType}
-use Rattle.columns.specs.declared.Row.{Row}
 use Rattle.columns.specs.Columns.{fieldOf, heldNumber, heldDay, heldCancel, held, numberIn, chargeIn, usageIn, charge, usage}
-use Rattle.columns.specs.Rows.{RowRead}
 use Rattle.leading_bytes.specs.LeadingBytes.{packed, packedAfter}
 use Rattle.amount_readings.specs.AmountReadings.{signedOf}
-use Rattle.line_readings.specs.LineReadings.{NumbersRead}
-use Rattle.codes_and_rows.specs.Numbers.{numberOfField, columnNumber, RowOf}
-use Rattle.line_readings.proofs.Heads.{AllBelow, at-below}
+use Rattle.codes_and_rows.specs.Fields.{NumbersRead}
+use Rattle.codes_and_rows.specs.Numbers.{fieldNumber, columnNumber, columnNumbers, columnAmount}
 use Rattle.codes_and_rows.proofs.Texts.{Printable, printable-text, packed-is}
 use Rattle.codes_and_rows.proofs.FieldKinds.{hasKind, kind-at, isId, isDate, isShortText, isCharge, isUsage, says-id, says-date, says-charge, says-usage, column-kind}
 use Rattle.codes_and_rows.proofs.Codes.{stands-at, field-printable, text-number}
 
-said-at : (numbers : List ℕ) (j : ℕ) → numberOfField numbers (suc j) ≡ getD numbers (suc j) 0
-unfolding numberOfField
-said-at numbers j = rw (ne-eqb (suc j) 0 (λ e. omega (arith, e)))
-
 module _ {type : ℕ} {line numbers : List ℕ} (read : NumbersRead type line numbers) (known : type < 9) where
-  id-column : (k : ℕ) → T (hasKind isId type k) → numberOfField numbers k ≡ heldNumber (digitsOf (field k line))
-  unfolding numberOfField field digitsOf
-  id-column zero t = refl
-  id-column (suc j) t = let here = kind-at isId type j t in said-at numbers j ∙ says-id (field (suc j) line) _ (fieldType type j) (here .1) (stands-at read known j (here .0) .says)
+  id-column : (k : ℕ) → T (hasKind isId type k) → getD numbers k 0 ≡ heldNumber (digitsOf (field k line))
+  unfolding field digitsOf
+  id-column zero t = read .none
+  id-column (suc j) t = let here = kind-at isId type j t in says-id (field (suc j) line) _ (fieldType type j) (here .1) (stands-at read known j (here .0) .says)
 
-  date-column : (k : ℕ) → T (hasKind isDate type k) → numberOfField numbers k ≡ heldDay (dayOf (field k line))
-  unfolding numberOfField field dayOf
-  date-column zero t = refl
-  date-column (suc j) t = let here = kind-at isDate type j t in said-at numbers j ∙ says-date (field (suc j) line) _ (fieldType type j) (here .1) (stands-at read known j (here .0) .says)
+  date-column : (k : ℕ) → T (hasKind isDate type k) → getD numbers k 0 ≡ heldDay (dayOf (field k line))
+  unfolding field dayOf
+  date-column zero t = read .none
+  date-column (suc j) t = let here = kind-at isDate type j t in says-date (field (suc j) line) _ (fieldType type j) (here .1) (stands-at read known j (here .0) .says)
 
-  charge-column : (k : ℕ) → T (hasKind isCharge type k) → signedOf (numberOfField numbers k) ≡ units (amountOf 11 2 (field k line))
-  unfolding numberOfField field signedOf amountOf
-  charge-column zero t = refl
-  charge-column (suc j) t = let here = kind-at isCharge type j t in ap signedOf (said-at numbers j) ∙ says-charge (field (suc j) line) _ (fieldType type j) (here .1) (stands-at read known j (here .0) .says)
+  charge-column : (k : ℕ) → T (hasKind isCharge type k) → signedOf (getD numbers k 0) ≡ units (amountOf 11 2 (field k line))
+  unfolding field signedOf amountOf
+  charge-column zero t = ap signedOf (read .none)
+  charge-column (suc j) t = let here = kind-at isCharge type j t in says-charge (field (suc j) line) _ (fieldType type j) (here .1) (stands-at read known j (here .0) .says)
 
-  usage-column : (k : ℕ) → T (hasKind isUsage type k) → signedOf (numberOfField numbers k) ≡ units (amountOf 14 4 (field k line))
-  unfolding numberOfField field signedOf amountOf
-  usage-column zero t = refl
+  usage-column : (k : ℕ) → T (hasKind isUsage type k) → signedOf (getD numbers k 0) ≡ units (amountOf 14 4 (field k line))
+  unfolding field signedOf amountOf
+  usage-column zero t = ap signedOf (read .none)
   usage-column (suc j) t =
       let here = kind-at isUsage type j t in
       let stands = stands-at read known j (here .0) in
-      ap signedOf (said-at numbers j) ∙ says-usage (field (suc j) line) _ (fieldType type j) (here .1) (stands .fits) (stands .says)
+      says-usage (field (suc j) line) _ (fieldType type j) (here .1) (stands .fits) (stands .says)
 
   module _ (printable : Printable line) where
-    cancel-column : (k : ℕ) → T (hasKind isShortText type k) → cond (eqb (numberOfField numbers k) (packed (written "Y"))) 1 0 ≡ heldCancel (field k line)
-    unfolding numberOfField field packedAfter sameBytes
-    cancel-column zero t = refl
+    cancel-column : (k : ℕ) → T (hasKind isShortText type k) → cond (eqb (getD numbers k 0) (packed (written "Y"))) 1 0 ≡ heldCancel (field k line)
+    unfolding field packedAfter sameBytes
+    cancel-column zero t = ap (λ (n : ℕ). cond {A = ℕ} (eqb n (packed (written "Y"))) 1 0) (read .none)
     cancel-column (suc j) t =
         ap (λ (b : Bool). cond {A = ℕ} b 1 0)
-        (ap (λ (n : ℕ). eqb n (packed (written "Y"))) (said-at numbers j ∙ text-number read known printable j t)
+        (ap (λ (n : ℕ). eqb n (packed (written "Y"))) (text-number read known printable j t)
         ∙ packed-is (field (suc j) line) (written "Y") (field-printable read known printable j) (printable-text (written "Y") tt))
 
     module _ (named : typeIn line ≡ type) where
       SameColumn : ℕ → Type 0
-      SameColumn column = columnNumber column type numbers ≡ numberIn column line
+      SameColumn column = columnNumber type numbers column ≡ numberIn column line
 
-      id-same : (column : ℕ) → T (hasKind isId type (fieldOf column type)) → numberOfField numbers (fieldOf column type) ≡ heldNumber (digitsOf (field (fieldOf column (typeIn line)) line))
+      id-same : (column : ℕ) → T (hasKind isId type (fieldOf column type)) → fieldNumber type numbers column ≡ heldNumber (digitsOf (field (fieldOf column (typeIn line)) line))
       id-same column t = rw named (id-column (fieldOf column type) t)
 
-      date-same : (column : ℕ) → T (hasKind isDate type (fieldOf column type)) → numberOfField numbers (fieldOf column type) ≡ heldDay (dayOf (field (fieldOf column (typeIn line)) line))
+      date-same : (column : ℕ) → T (hasKind isDate type (fieldOf column type)) → fieldNumber type numbers column ≡ heldDay (dayOf (field (fieldOf column (typeIn line)) line))
       date-same column t = rw named (date-column (fieldOf column type) t)
 
       columns-same : AllBelow SameColumn 8
@@ -101,22 +94,14 @@ module _ {type : ℕ} {line numbers : List ℕ} (read : NumbersRead type line nu
         rw named (cancel-column (fieldOf 7 type) (column-kind type known isShortText 7 (lit< tt) tt refl)),
       )
 
-      column-same : (column : ℕ) → column < 8 → columnNumber column type numbers ≡ numberIn column line
+      pub numbers-same : (column : ℕ) → column < 8 → getD (columnNumbers type numbers) column 0 ≡ numberIn column line
       unfolding SameColumn
-      column-same column h = at-below SameColumn 8 columns-same column h
+      numbers-same column h = tabulate-at (columnNumber type numbers) 8 column h ∙ at-below SameColumn 8 columns-same column h
 
-      charge-same : signedOf (numberOfField numbers (fieldOf charge type)) ≡ chargeIn line
+      pub charge-same : columnAmount type numbers charge ≡ chargeIn line
       unfolding chargeIn fieldCount fieldType
       charge-same = rw named (charge-column (fieldOf charge type) (column-kind type known isCharge charge (lit< tt) tt refl))
 
-      usage-same : signedOf (numberOfField numbers (fieldOf usage type)) ≡ usageIn line
+      pub usage-same : columnAmount type numbers usage ≡ usageIn line
       unfolding usageIn fieldCount fieldType
       usage-same = rw named (usage-column (fieldOf usage type) (column-kind type known isUsage usage (lit< tt) tt refl))
-
-      pub row-read : (row : Row) → RowOf type numbers row → RowRead line row
-      row-read row made =
-          record {
-            numbers = λ column h. made .numbers column h ∙ column-same column h;
-            charge = made .charge ∙ charge-same;
-            usage = made .usage ∙ usage-same;
-          }

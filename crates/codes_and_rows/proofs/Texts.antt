@@ -24,7 +24,7 @@ use Rattle.text.specs.Text.{onto, cut}
 use Rattle.digits.proofs.Laws.{both-true}
 use Rattle.format.specs.Format.{isPrintable}
 use Rattle.leading_bytes.specs.LeadingBytes.{packed, packedAfter}
-use Rattle.line_readings.specs.LineReadings.{fieldAfter}
+use Rattle.codes_and_rows.specs.Fields.{fieldAfter}
 
 abbrev pub Printable : List ℕ → Type 0
 Printable s = (i : ℕ) → i < length s → (32 ≤ getD s i 0) × (getD s i 0 ≤ 126)

@@ -1,15 +1,15 @@
 -- Test 7 and the columns, by the numbers that a line's fields say.
 -- Assumes nothing.
-use Prim.Native.Nat.{ℕ, _<_}
-use mathlib.Core.Path.{_≡_}
+use Prim.Native.Nat.{ℕ}
 use mathlib.Core.List.{List}
 use mathlib.Core.Bool.{Bool, cond, _&&_, _||_}
 use lib.ListN.{getD}
 use lib.Dec.{eqb}
+use lib.IntN.{ℤ}
+use Rattle.lists.specs.Tabulate.{tabulate}
 use Rattle.lists.specs.Written.{written}
 use Rattle.format.specs.Format.{commodityFields, unitFields, cancelFields, exemptionFields}
-use Rattle.columns.specs.declared.Row.{Row}
-use Rattle.columns.specs.Columns.{fieldOf, charge, usage}
+use Rattle.columns.specs.Columns.{fieldOf}
 use Rattle.leading_bytes.specs.LeadingBytes.{packed}
 use Rattle.amount_readings.specs.AmountReadings.{signedOf}
 
@@ -23,17 +23,21 @@ codesStand unit type numbers =
     && (isEither (getD unitFields type 0) numbers unit unit
     && (isEither (getD cancelFields type 0) numbers (written "Y") (written "N") && isEither (getD exemptionFields type 0) numbers (written "Y") (written "N")))
 
--- ---- the columns by numbers: the number of field k, counted from 1, or 0 where there is none
-unfoldable pub numberOfField : List ℕ → ℕ → ℕ
-numberOfField numbers k = cond (eqb k 0) 0 (getD numbers k 0)
+-- the unit of a commodity, electricity or gas
+unfoldable pub unitIf : Bool → List ℕ
+unitIf electricity = cond electricity (written "KWH") (written "GJ")
 
--- what the column of a record of a type holds, whose fields say the numbers
-unfoldable pub columnNumber : ℕ → ℕ → List ℕ → ℕ
-columnNumber column type numbers =
-    cond (eqb column 0) type
-    (cond (eqb column 7) (cond (eqb (numberOfField numbers (fieldOf 7 type)) (packed (written "Y"))) 1 0) (numberOfField numbers (fieldOf column type)))
+-- ---- what the columns hold of a record of a type, whose fields say the numbers: the number of a column's field, counted from 1
+abbrev pub fieldNumber : ℕ → List ℕ → ℕ → ℕ
+fieldNumber type numbers column = getD numbers (fieldOf column type) 0
 
-pub record RowOf (type : ℕ) (said : List ℕ) (r : Row) : Type 0 where
-  pub numbers : (column : ℕ) → column < 8 → getD (r .numbers) column 0 ≡ columnNumber column type said
-  pub charge : r .charge ≡ signedOf (numberOfField said (fieldOf charge type))
-  pub usage : r .usage ≡ signedOf (numberOfField said (fieldOf usage type))
+unfoldable pub columnNumber : ℕ → List ℕ → ℕ → ℕ
+columnNumber type numbers column =
+    cond (eqb column 0) type (cond (eqb column 7) (cond (eqb (fieldNumber type numbers 7) (packed (written "Y"))) 1 0) (fieldNumber type numbers column))
+
+abbrev pub columnNumbers : ℕ → List ℕ → List ℕ
+columnNumbers type numbers = tabulate (columnNumber type numbers) 8 0
+
+-- and the amount of one
+abbrev pub columnAmount : ℕ → List ℕ → ℕ → ℤ
+columnAmount type numbers column = signedOf (fieldNumber type numbers column)

@@ -2,12 +2,12 @@
 ghost use mathlib.Core.Path.{_≡_};
 ghost use mathlib.Core.Bool.{_||_};
 ghost use lib.Dec.{eqb};
-ghost use Prim.Native.Nat.{_<_};
-ghost use lib.ListN.{length, getD};
+ghost use Prim.Native.Nat.{_+_, _≤_, _<_};
+ghost use lib.ListN.{length, getD, set};
 ghost use Rattle.format.specs.Format.{commodityFields, unitFields, cancelFields, exemptionFields};
-ghost use Rattle.coded_fields.specs.Steps.{unitIf};
-ghost use Rattle.codes_and_rows.specs.Numbers.{codesStand, numberOfField, RowOf};
-use columns::Row;
+ghost use Rattle.columns.specs.Columns.{Room, charge, usage};
+ghost use Rattle.columns.specs.Rows.{columnFields, RowStored};
+ghost use Rattle.codes_and_rows.specs.Numbers.{codesStand, unitIf, columnNumbers, columnAmount};
 
 // The field of a type, counted from 1, that has each code of test 7; 0 where the type has none.
 fn commodity_field(record_type: u64) -> usize
@@ -78,36 +78,35 @@ pub fn codes_stand(record_type: u64, numbers: &[u64], electricity: bool) -> bool
     is_either(exemption_field(record_type), numbers, 89, 78)
 }
 
-// The number of field k, counted from 1, or 0 where there is none.
-fn number_of_field(numbers: &[u64], k: usize) -> u64
-    requires { ⌜ k < length (now numbers) ⌝ }
-    ensures { λ r. ⌜ r ≡ numberOfField (now (numbers .entry)) k ⌝ }
+// Puts what the columns hold of line i, a record of a type, into them: the numbers of its fields, by the table of the columns' fields, which is lent.
+pub fn store_line(
+    fields: &[[usize; 10]; 9],
+    numbers: &[u64],
+    record_type: u64,
+    words: &mut [u64],
+    charges: &mut [i64],
+    usages: &mut [i64],
+    i: usize,
+)
+    requires { ⌜ (now fields ≡ columnFields) × (length (now numbers) ≡ 24) × (record_type < 9) ⌝ }
+    requires { ⌜ Room (i + 1) (now words) (now charges) (now usages) × (length (now charges) ≤ 4096) ⌝ }
+    ensures { λ _. ⌜ RowStored (length (now (charges .entry))) (now (words .entry)) i (columnNumbers record_type (now (numbers .entry))) 8 (now (words .exit)) ⌝ }
+    ensures { λ _. ⌜ now (charges .exit) ≡ set (now (charges .entry)) i (columnAmount record_type (now (numbers .entry)) charge) ⌝ }
+    ensures { λ _. ⌜ now (usages .exit) ≡ set (now (usages .entry)) i (columnAmount record_type (now (numbers .entry)) usage) ⌝ }
 {
-    if k == 0 {
-        return 0;
-    }
-    numbers[k]
-}
-
-// What the columns hold of a record of a type, by the numbers that its fields say.
-pub fn row_of_numbers(record_type: u64, numbers: &[u64]) -> Row
-    requires { ⌜ length (now numbers) ≡ 24 ⌝ }
-    ensures { λ r. ⌜ RowOf record_type (now (numbers .entry)) r ⌝ }
-{
-    let fields = columns::fields_of(record_type);
-    let mut held = [0u64; 8];
-    held[0] = record_type;
+    let room = charges.len();
+    let row = record_type as usize;
+    words[i] = record_type;
     let mut c: usize = 1;
     while c < 7 {
-        held[c] = number_of_field(numbers, fields[c]);
+        let k = fields[row][c];
+        words[c * room + i] = numbers[k];
         c += 1;
     }
-    if number_of_field(numbers, fields[7]) == 89 {
-        held[7] = 1;
-    }
-    Row {
-        numbers: held,
-        charge: amount_readings::signed(number_of_field(numbers, fields[8])),
-        usage: amount_readings::signed(number_of_field(numbers, fields[9])),
-    }
+    let cancel = fields[row][7];
+    words[7 * room + i] = if numbers[cancel] == 89 { 1 } else { 0 };
+    let charge = fields[row][8];
+    charges[i] = amount_readings::signed(numbers[charge]);
+    let usage = fields[row][9];
+    usages[i] = amount_readings::signed(numbers[usage]);
 }

@@ -1,7 +1,5 @@
 -- The steps of reading columns.
---     row-field                                 the field that a column reads of a type
---     NumbersRead, numbers-none, numbers-more   a loop that reads the numbers of a record
---     row-read                                  a record's row is that of its line
+--     field-lent                                the field that a column reads of a type, by the table that is lent
 --     row-none, row-more                        a loop that stores the numbers of a line
 --     Rows, rows-none, rows-more, rows-end      a loop over the lines, which have their numbers in the columns
 --     Amounts, amounts-none, -more, -end        and their amounts
@@ -13,70 +11,26 @@ use Prim.Native.Nat.{ℕ, zero, suc, _+_, _*_, _≤_, _<_}
 use native.Mathlib.Nat.{zero-mul, suc-mul, mul-le-mul-right}
 use native.Mathlib.Omega.{arith}
 use borrow.Author.Count.{below-more}
-use borrow.Author.Tests.{ne-eqb}
 use lib.ListN.{length, getD, take, drop, set, length-set, length-map, length-drop}
 use lib.Seq.{getD-set-same, getD-set-other, getD-take, getD-drop, length-take-le, ext-getD}
 use lib.IntN.{ℤ, pos}
+use Rattle.lists.proofs.AllBelow.{at-below}
 use Rattle.lists.proofs.Column.{Filled, filled-none, filled-more, filled-end, filled-take}
 use Rattle.lists.proofs.Table.{tabulate-at}
-use Rattle.amounts.specs.Amounts.{amountOf, units}
-use Rattle.records.specs.declared.Record.{Record}
-use Rattle.records.specs.Records.{field, fieldsAt, RecordFound}
-use Rattle.records.proofs.Laws.{record-field}
-use Rattle.columns.specs.declared.Row.{Row}
-use Rattle.columns.specs.Columns.{charge, usage, fieldOf, fieldIn, held, numberIn, chargeIn, usageIn, columnAt, ColumnsRead}
-use Rattle.columns.specs.Rows.{fieldRow, columnField, numberAmong, RowAmong, RowRead, RowStored}
+use Rattle.columns.specs.Columns.{fieldOf, numberIn, chargeIn, usageIn, columnAt, ColumnsRead}
+use Rattle.columns.specs.Rows.{fieldRow, columnFields, RowStored}
 use Rattle.columns.proofs.Laws.{map-at}
 
--- ---- the fields of the columns
-pub row-field : (type column : ℕ) → column < 10 → getD (fieldRow type) column 0 ≡ fieldOf column type
-row-field type column h = tabulate-at (λ (c : ℕ). fieldOf c type) 10 column h
+-- ---- the fields of the columns, by the table that is lent
+RowLent : List (List ℕ) → ℕ → Type 0
+RowLent fields type = getD fields type [] ≡ fieldRow type
 
--- ---- reading the numbers of a record
-pub type-among : (type : ℕ) (fields : List (List ℕ)) → numberAmong 0 type fields ≡ type
-unfolding numberAmong
-type-among type fields = refl
-
-pub held-among : (column type : ℕ) (fields : List (List ℕ)) → 0 < column → numberAmong column type fields ≡ held column (columnField column type fields)
-unfolding numberAmong
-held-among column type fields h = rw (ne-eqb column 0 (λ e. omega (arith, e)))
-
--- the first `count` numbers of a record
-pub record NumbersRead (type : ℕ) (fields : List (List ℕ)) (count : ℕ) (numbers : List ℕ) : Type 0 where
-  pub size : length numbers ≡ 8
-  pub at : (column : ℕ) → column < count → getD numbers column 0 ≡ numberAmong column type fields
-
-pub numbers-none : (type : ℕ) (fields : List (List ℕ)) (numbers : List ℕ) → length numbers ≡ 8 → NumbersRead type fields 0 numbers
-numbers-none type fields numbers e = record { size = e; at = λ column h. absurd (omega arith) }
-
-pub numbers-more : {type : ℕ} {fields : List (List ℕ)} {c : ℕ} {numbers : List ℕ} → NumbersRead type fields c numbers → c < 8 → (x : ℕ) → x ≡ numberAmong c type fields
-    → NumbersRead type fields (c + 1) (set numbers c x)
-numbers-more {type} {fields} {c} {numbers} r small x e =
-    record {
-      size = length-set numbers c x ∙ r .size;
-      at =
-          below-more (λ (column : ℕ). getD (set numbers c x) column 0 ≡ numberAmong column type fields) c
-          (λ column l. getD-set-other numbers c column x 0 (λ q. omega (arith, q)) ∙ r .at column l)
-          (getD-set-same numbers c x 0 (omega (arith, r .size)) ∙ e);
-    }
-
--- ---- a record's row is that of its line
-module _ {s line : List ℕ} {r : Record} (found : RecordFound s line r) where
-  line-field : (column : ℕ) → columnField column (r .record_type) (fieldsAt s (r .count) (r .starts) (r .ends)) ≡ fieldIn column line
-  line-field column = record-field found (fieldOf column (r .record_type)) ∙ ap (λ (type : ℕ). field (fieldOf column type) line) (found .type)
-
-  number-read : (column : ℕ) → numberAmong column (r .record_type) (fieldsAt s (r .count) (r .starts) (r .ends)) ≡ numberIn column line
-  unfolding numberAmong numberIn
-  number-read column = rw (line-field column, found .type)
-
-  pub row-read : {row : Row} → RowAmong (r .record_type) (fieldsAt s (r .count) (r .starts) (r .ends)) row → RowRead line row
-  unfolding chargeIn usageIn
-  row-read among =
-      record {
-        numbers = λ column h. among .numbers column h ∙ number-read column;
-        charge = among .charge ∙ ap (λ (l : List ℕ). units (amountOf 11 2 l)) (line-field charge);
-        usage = among .usage ∙ ap (λ (l : List ℕ). units (amountOf 14 4 l)) (line-field usage);
-      }
+pub field-lent : {fields : List (List ℕ)} → fields ≡ columnFields → (type column : ℕ) → type < 9 → column < 10 → getD (getD fields type []) column 0 ≡ fieldOf column type
+unfolding RowLent
+field-lent lent type column known small =
+    ap (λ (rows : List (List ℕ)). getD (getD rows type []) column 0) lent
+    ∙ ap (λ (row : List ℕ). getD row column 0) (at-below (RowLent columnFields) 9 (((((((((tt, refl), refl), refl), refl), refl), refl), refl), refl), refl) type known)
+    ∙ tabulate-at (λ (c : ℕ). fieldOf c type) 10 column small
 
 -- ---- the words of the columns
 pub column-inside : (room column : ℕ) → column < 8 → column * room + room ≤ 8 * room
@@ -98,17 +52,16 @@ pub row-none : (room : ℕ) (words : List ℕ) (i : ℕ) (numbers : List ℕ) �
 row-none room words i numbers = record { size = refl; here = λ column h. absurd (omega arith); other = λ column k h n. refl }
 
 pub row-more : {room : ℕ} {before : List ℕ} {i : ℕ} {numbers : List ℕ} {c : ℕ} {after : List ℕ} → RowStored room before i numbers c after
-    → i < room → c * room + i < length before → RowStored room before i numbers (c + 1) (set after (c * room + i) (getD numbers c 0))
-row-more {room} {before} {i} {numbers} {c} {after} r small inside =
+    → i < room → c * room + i < length before → (x : ℕ) → x ≡ getD numbers c 0 → RowStored room before i numbers (c + 1) (set after (c * room + i) x)
+row-more {room} {before} {i} {numbers} {c} {after} r small inside x e =
     let place = c * room + i in
-    let x = getD numbers c 0 in
     record {
       size = length-set after place x ∙ r .size;
       here =
           below-more (λ (column : ℕ). getD (set after place x) (column * room + i) 0 ≡ getD numbers column 0) c
-          (λ column l. getD-set-other after place (column * room + i) x 0 (λ e. let p = same-place room column c i i small small e .0 in omega (arith, p)) ∙ r .here column l)
-          (getD-set-same after place x 0 (omega (arith, r .size)));
-      other = λ column k h n. getD-set-other after place (column * room + k) x 0 (λ e. n (same-place room column c k i h small e .1)) ∙ r .other column k h n;
+          (λ column l. getD-set-other after place (column * room + i) x 0 (λ q. let p = same-place room column c i i small small q .0 in omega (arith, p)) ∙ r .here column l)
+          (getD-set-same after place x 0 (omega (arith, r .size)) ∙ e);
+      other = λ column k h n. getD-set-other after place (column * room + k) x 0 (λ q. n (same-place room column c k i h small q .1)) ∙ r .other column k h n;
     }
 
 -- ---- the lines
@@ -178,15 +131,16 @@ pub reading-none : (lines : List (List ℕ)) (words : List ℕ) (charges usages 
 reading-none lines words charges usages size =
     record { numbers = rows-none (length charges) lines words size; charge = amounts-none chargeIn lines charges; usage = amounts-none usageIn lines usages }
 
--- one line more, whose row is stored
+-- one line more, whose numbers and amounts are stored
 module _ {lines : List (List ℕ)} {charges₀ usages₀ : List ℤ} {i : ℕ} {words : List ℕ} {charges usages : List ℤ} (r : Reading lines charges₀ usages₀ i words charges usages) where
-  pub reading-more : {row : Row} {after : List ℕ} {x y : ℤ} → i < length lines → i < length charges₀ → length usages₀ ≡ length charges₀ → RowRead (getD lines i []) row
-      → RowStored (length charges₀) words i (row .numbers) 8 after → x ≡ row .charge → y ≡ row .usage → Reading lines charges₀ usages₀ (i + 1) after (set charges i x) (set usages i y)
-  reading-more {x = x} {y = y} h small space line stored p q =
+  pub reading-more : {numbers after : List ℕ} {x y : ℤ} → i < length lines → i < length charges₀ → length usages₀ ≡ length charges₀ → RowStored (length charges) words i numbers 8 after
+      → ((column : ℕ) → column < 8 → getD numbers column 0 ≡ numberIn column (getD lines i [])) → x ≡ chargeIn (getD lines i []) → y ≡ usageIn (getD lines i [])
+      → Reading lines charges₀ usages₀ (i + 1) after (set charges i x) (set usages i y)
+  reading-more {numbers} {after} {x} {y} h small space stored line p q =
       record {
-        numbers = rows-more (r .numbers) small stored (line .numbers);
-        charge = amounts-more (r .charge) h small x (p ∙ line .charge);
-        usage = amounts-more (r .usage) h (omega (arith, small, space)) y (q ∙ line .usage);
+        numbers = rows-more (r .numbers) small (subst (λ (room : ℕ). RowStored room words i numbers 8 after) (r .charge .size) stored) line;
+        charge = amounts-more (r .charge) h small x p;
+        usage = amounts-more (r .usage) h (omega (arith, small, space)) y q;
       }
 
   pub reading-end : i ≡ length lines → i ≤ length charges₀ → ColumnsRead lines words charges usages

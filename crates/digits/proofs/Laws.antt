@@ -2,6 +2,7 @@
 --     digits-step, -low, -high, -end    one turn of a loop over the bytes, and its end
 --     digits-bound                      n digits say less than the n-th power of ten
 --     digits-say, digits-none           what an answer tells of the bytes
+--     fixed-say, fixed-same             what is said by just so many digits, and that no other bytes say it
 --     leading-zero                      a leading zero changes no value
 -- Assumes nothing.
 use mathlib.Core.Path.{_≡_, refl, sym, _∙_, ap, subst}
@@ -11,13 +12,13 @@ use Prim.Native.Nat.{ℕ, zero, suc, _+_, _-_, _*_, _^_, _≤_, _<_}
 use native.Mathlib.Nat.{add-zero, zero-add, pow-suc, pow-le-pow-right, lt-of-lt-of-le}
 use native.Mathlib.Numerals.{add-one}
 use native.Mathlib.Omega.{arith}
-use borrow.Author.Tests.{le-leb, lt-leb, leb-true}
-use lib.Dec.{lit<, leb}
+use borrow.Author.Tests.{le-leb, lt-leb, leb-true, eqb-true}
+use lib.Dec.{lit<, leb, eqb}
 use lib.ListN.{length, getD, drop, drop-of-length-le}
 use lib.Seq.{drop-cons}
 use Rattle.digits.specs.declared.Number.{Number}
 use Rattle.digits.specs.declared.Number.the-variants.{Value, Other}
-use Rattle.digits.specs.Digits.{isDigit, allDigits, followedBy, numberOf, within, digitsOf}
+use Rattle.digits.specs.Digits.{isDigit, allDigits, followedBy, numberOf, within, digitsOf, fixedDigitsOf}
 
 -- one digit more
 pub ten-more : (i : ℕ) {v d : ℕ} → v < 10 ^ i → d < 10 → v * 10 + d < 10 ^ (i + 1)
@@ -61,14 +62,15 @@ both-true true false e = (refl, e)
 both-true false true e = (e, refl)
 both-true false false e = (e, e)
 
+digit-range : (b : ℕ) → isDigit b ≡ true → (48 ≤ b) × (b ≤ 57)
+digit-range b e = let r = both-true (leb 48 b) (leb b 57) e in (leb-true 48 b (r .0), leb-true b 57 (r .1))
+
 followed-bound : (s : List ℕ) (v k : ℕ) → allDigits s ≡ true → v < 10 ^ k → followedBy v s < 10 ^ (k + length s)
 unfolding allDigits followedBy
 followed-bound [] v k d h = rw add-zero h
 followed-bound (b ∷ s) v k d h =
     let q = both-true (isDigit b) (allDigits s) d in
-    let r = both-true (leb 48 b) (leb b 57) (q .0) in
-    let l : 48 ≤ b = leb-true 48 b (r .0) in
-    let u : b ≤ 57 = leb-true b 57 (r .1) in
+    let r = digit-range b (q .0) in
     subst (λ (m : ℕ). followedBy (v * 10 + (b - 48)) s < 10 ^ m) (omega arith) (followed-bound s (v * 10 + (b - 48)) (k + 1) (q .1) (ten-more k h (omega arith)))
 
 pub number-bound : (s : List ℕ) → allDigits s ≡ true → numberOf s < 10 ^ length s
@@ -123,6 +125,37 @@ digits-none s e l u = go (allDigits s) refl
     go : (d : Bool) → allDigits s ≡ d → allDigits s ≡ false
     go true d = let z : _≡_ {A = ℕ} 0 1 = cc (digits-are s l u d) in absurd (omega arith)
     go false d = d
+
+-- ---- so many digits, and no others, say a number
+pub fixed-say : (width : ℕ) (s : List ℕ) (n : ℕ) → fixedDigitsOf width s ≡ Value n → (length s ≡ width) × (digitsOf s ≡ Value n)
+unfolding fixedDigitsOf
+fixed-say width s n e = go (eqb (length s) width) refl e
+  where
+    go : (b : Bool) → eqb (length s) width ≡ b → cond b (digitsOf s) Other ≡ Value n → (length s ≡ width) × (digitsOf s ≡ Value n)
+    go true q e = (eqb-true (length s) width q, e)
+    go false q e = let z : _≡_ {A = ℕ} 0 1 = cc in absurd (omega arith)
+
+followed-same : (s t : List ℕ) (v w : ℕ) → length s ≡ length t → allDigits s ≡ true → allDigits t ≡ true → followedBy v s ≡ followedBy w t → (v ≡ w) × (s ≡ t)
+unfolding allDigits followedBy
+followed-same [] [] v w l d f e = (e, refl)
+followed-same [] (c ∷ t) v w l d f e = absurd (omega arith)
+followed-same (b ∷ s) [] v w l d f e = absurd (omega arith)
+followed-same (b ∷ s) (c ∷ t) v w l d f e =
+    let p = both-true (isDigit b) (allDigits s) d in
+    let q = both-true (isDigit c) (allDigits t) f in
+    let x = digit-range b (p .0) in
+    let y = digit-range c (q .0) in
+    let later = followed-same s t (v * 10 + (b - 48)) (w * 10 + (c - 48)) (omega arith) (p .1) (q .1) e in
+    let z : b ≡ c = omega arith in
+    (omega arith, rw (z, later .1))
+
+pub fixed-same : (width : ℕ) (s t : List ℕ) (n : ℕ) → fixedDigitsOf width s ≡ Value n → fixedDigitsOf width t ≡ Value n → s ≡ t
+fixed-same width s t n d f =
+    let p = fixed-say width s n d in
+    let q = fixed-say width t n f in
+    let x = digits-say s n (p .1) in
+    let y = digits-say t n (q .1) in
+    followed-same s t 0 0 (p .0 ∙ sym (q .0)) (x .digits) (y .digits) (x .value ∙ sym (y .value)) .1
 
 -- a leading zero (byte 48) changes no value
 pub number-leading-zero : (s : List ℕ) → numberOf (48 ∷ s) ≡ numberOf s

@@ -5,6 +5,8 @@ ghost use Prim.Native.Nat.{_+_, _-_, _*_, _≤_, _<_};
 ghost use lib.Dec.{eqb};
 ghost use lib.IntN.{pos};
 ghost use lib.ListN.{length, getD};
+ghost use Rattle.lists.specs.Bytes.{sameBytes};
+ghost use Rattle.lists.specs.Written.{written};
 ghost use Rattle.text.specs.Text.{linesOf, part};
 ghost use Rattle.columns.specs.Columns.{columnAt};
 ghost use Rattle.format.specs.Format.{lineAt};
@@ -247,6 +249,17 @@ fn number_in(file: &[u8], a: usize, e: usize, k: usize) -> u64
     number_or_zero(digits::digits(&file[b..f]))
 }
 
+// Whether the line from a to e, a file's first, names electricity as the commodity.
+fn is_electric(file: &[u8], a: usize, e: usize) -> bool
+    requires { ⌜ (a ≤ e) × (e ≤ length (now file)) ⌝ }
+    ensures { λ r. ⌜ r ≡ sameBytes (field 6 (part (now (file .entry)) a e)) (written "EL") ⌝ }
+{
+    let place = records::field_at(file, a, e, 6);
+    let b = place.0;
+    let f = place.1;
+    lists::same_bytes(&file[b..f], b"EL")
+}
+
 // The file's own entry.
 pub fn read_header(
     file: &[u8],
@@ -264,7 +277,7 @@ pub fn read_header(
     let e = ends[0];
     let sender = number_in(file, a, e, 5);
     let id = number_in(file, a, e, 1);
-    let commodity = either(coded_fields::is_electric(file, a, e), 1, 2);
+    let commodity = either(is_electric(file, a, e), 1, 2);
     let last = n - 1;
     let charge = charges[last];
     Entry {

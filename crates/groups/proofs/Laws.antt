@@ -1,9 +1,9 @@
 -- Laws of columns that are made of other columns.
---     tabled-length, tabled-at, tabled-same      what a column of f at 0 to n - 1 is
---     Tabling, tabling-none, -length, -more, -end    a loop that fills the front of a column with f of each place, and has passed i places
+--     tabled-length, tabled-at                   what a column of f at 0 to n - 1 is
+--     Tabling, tabling-none, -more, -end         a loop that fills the front of a column with f of each place, and has passed i places
 --     Marked, marked-none, -parent, -more        the nearest record of each type that can be asked for, kept in an array while a loop passes the records
 --     parent-before, parent-type-there, parent-none, parent-is     what the record is that a record hangs under
---     parents-length, parent-at, picked-length, picked-at, picked-small, places-length, place-at, ones-length, one-at    the four columns at a place
+--     parents-length, parent-at, picked-length, picked-at, picked-small, place-at, one-at    the four columns at a place
 -- Assumes nothing.
 use mathlib.Core.Path.{_≡_, refl, sym, _∙_, ap, subst}
 use mathlib.Core.Bool.{Bool, true, false, cond}
@@ -15,7 +15,7 @@ use native.Mathlib.Omega.{arith}
 use native.Mathlib.Decide.{decLt, ℕ-discrete}
 use borrow.Author.Tests.{eq-eqb, ne-eqb, eqb-true, eqb-false, lt-ltb, le-ltb, ltb-true}
 use lib.Dec.{eqb, ltb, ltb→lt, eqb→eq}
-use lib.ListN.{length, getD, drop, set, length-append, length-drop, length-set}
+use lib.ListN.{length, getD, drop, set, length-set}
 use lib.Seq.{drop-cons, set-at, append-snoc, getD-set-same, getD-set-other}
 use Rattle.lists.specs.Below.{nearestBelow}
 use Rattle.lists.proofs.Below.{nearest-more, nearest-kept, nearest-at-most, nearest-holds, nearest-none}
@@ -53,9 +53,6 @@ module _ (f : ℕ → ℕ) where
     unfolding tabled
     tabling-none = refl
 
-    pub tabling-length : (i : ℕ) (col : List ℕ) → i ≤ length col₀ → Tabling i col → length col ≡ length col₀
-    tabling-length i col l p = ap length p ∙ length-append (tabled f 0 i) (drop i col₀) ∙ rw (tabled-length i 0, length-drop) (omega arith)
-
     pub tabling-more : (i : ℕ) (col : List ℕ) (v : ℕ) → i < length col₀ → Tabling i col → v ≡ f i → Tabling (i + 1) (set col i v)
     tabling-more i col v l p e =
         rw (p, e, drop-cons col₀ i 0 l, add-one)
@@ -64,14 +61,6 @@ module _ (f : ℕ → ℕ) where
 
     pub tabling-end : (n i : ℕ) (col : List ℕ) → i ≡ n → Tabling i col → Tabling n col
     tabling-end n i col e p = subst (λ (k : ℕ). Tabling k col) e p
-
-tabled-same-from : (f g : ℕ → ℕ) (n i : ℕ) → ((k : ℕ) → k < i + n → f k ≡ g k) → tabled f i n ≡ tabled g i n
-unfolding tabled
-tabled-same-from f g zero i same = refl
-tabled-same-from f g (suc n) i same = rw (same i (omega arith), tabled-same-from f g n (suc i) (λ k h. same k (omega arith)))
-
-pub tabled-same : (f g : ℕ → ℕ) (n : ℕ) → ((k : ℕ) → k < n → f k ≡ g k) → tabled f 0 n ≡ tabled g 0 n
-tabled-same f g n same = tabled-same-from f g n 0 (λ k h. same k (omega arith))
 
 -- ---- the nearest record of each type that can be asked for
 pub parent-type-small : (t : ℕ) → parentType t < 10
@@ -181,17 +170,9 @@ module _ (types : List ℕ) where
     picked-at i h = tabled-at (pickedAt types values low high) (length types) i h
 
 module _ (n : ℕ) where
-  pub places-length : length (places n) ≡ n
-  unfolding places
-  places-length = tabled-length (λ (i : ℕ). i + 1) n 0
-
   pub place-at : (i : ℕ) → i < n → getD (places n) i 0 ≡ i + 1
   unfolding places
   place-at i h = tabled-at (λ (i : ℕ). i + 1) n i h
-
-  pub ones-length : length (ones n) ≡ n
-  unfolding ones
-  ones-length = tabled-length (λ (i : ℕ). 1) n 0
 
   pub one-at : (i : ℕ) → i < n → getD (ones n) i 0 ≡ 1
   unfolding ones

@@ -1,11 +1,11 @@
-// Columns that are made of other columns: the record that each record hangs under, and values picked by record type.
+// Values picked by record type. What column holds the record that each record hangs under is in specs/.
 ghost use mathlib.Core.Path.{_≡_};
 ghost use mathlib.Core.List.{_++_};
 ghost use mathlib.Core.Bool.{cond, _&&_};
 ghost use Prim.Native.Nat.{_≤_};
 ghost use lib.Dec.{leb, ltb};
 ghost use lib.ListN.{length, drop};
-ghost use Rattle.groups.specs.Groups.{parentPlaces, picked, places, ones};
+ghost use Rattle.groups.specs.Groups.{picked};
 
 // Where the nearest record of a type is kept: the types that can be asked for, 0 to 9, have a place each, and all others share one.
 pub fn slot(record_type: u64) -> usize
@@ -15,21 +15,6 @@ pub fn slot(record_type: u64) -> usize
         return record_type as usize;
     }
     10
-}
-
-// Puts the place and one of the record that each record hangs under into out, or 0, in one pass.
-pub fn parent_places(types: &[u64], out: &mut [u64])
-    requires { ⌜ length (now types) ≤ length (now out) ⌝ }
-    ensures { λ _. ⌜ now (out .exit) ≡ parentPlaces (now (types .entry)) ++ drop (length (now (types .entry))) (now (out .entry)) ⌝ }
-{
-    let mut nearest = [0u64; 11];
-    let mut i: usize = 0;
-    while i < types.len() {
-        let record_type = types[i];
-        out[i] = nearest[types::parent_type(record_type) as usize];
-        nearest[slot(record_type)] = i as u64 + 1;
-        i += 1;
-    }
 }
 
 // The value of a record whose type is one of low to high, and 0 for another.
@@ -53,30 +38,6 @@ pub fn pick(types: &[u64], values: &[u64], low: u64, high: u64, out: &mut [u64])
     let mut i: usize = 0;
     while i < types.len() {
         out[i] = chosen(types[i], values[i], low, high);
-        i += 1;
-    }
-}
-
-// Puts 1, 2, .. n into out.
-pub fn count_up(n: usize, out: &mut [u64])
-    requires { ⌜ n ≤ length (now out) ⌝ }
-    ensures { λ _. ⌜ now (out .exit) ≡ places n ++ drop n (now (out .entry)) ⌝ }
-{
-    let mut i: usize = 0;
-    while i < n {
-        out[i] = i as u64 + 1;
-        i += 1;
-    }
-}
-
-// Puts n ones into out.
-pub fn fill_ones(n: usize, out: &mut [u64])
-    requires { ⌜ n ≤ length (now out) ⌝ }
-    ensures { λ _. ⌜ now (out .exit) ≡ ones n ++ drop n (now (out .entry)) ⌝ }
-{
-    let mut i: usize = 0;
-    while i < n {
-        out[i] = 1;
         i += 1;
     }
 }

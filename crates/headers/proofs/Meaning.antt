@@ -25,11 +25,11 @@ use Rattle.headers.specs.Meaning.{Listed}
 use Rattle.headers.specs.Steps.{isGroup}
 
 -- ---- test 11
-number-is : (n : ℕ) (read : Number) → isNumber n read ≡ true → read ≡ Value n
+pub number-is : (n : ℕ) (read : Number) → isNumber n read ≡ true → read ≡ Value n
 number-is n (Value m) e = ap Value (eqb-true m n e)
 number-is n Other e = let z : _≡_ {A = ℕ} 0 1 = cc in absurd (omega arith)
 
-is-number : (n : ℕ) (read : Number) → read ≡ Value n → isNumber n read ≡ true
+pub is-number : (n : ℕ) (read : Number) → read ≡ Value n → isNumber n read ≡ true
 is-number n read e = ap (isNumber n) e ∙ eq-eqb n n refl
 
 module _ (retailer : ℕ) (header : List ℕ) where

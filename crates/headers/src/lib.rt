@@ -1,27 +1,25 @@
-// Tests 11, 12 and 33: what FH and FT say of the whole file.
+// Tests 11, 12 and 33: what FH and FT say of the whole file, by the numbers that were read of them.
 ghost use mathlib.Core.Path.{_≡_};
-ghost use Prim.Native.Nat.{_≤_, _/_};
+ghost use mathlib.Core.Bool.{false, cond};
+ghost use Prim.Native.Nat.{_+_, _-_, _≤_, _/_};
+ghost use lib.Dec.{eqb};
 ghost use lib.ListN.{length};
 ghost use lib.IntN.{pos};
 ghost use Rattle.lists.specs.Below.{someBelow};
-ghost use Rattle.amounts.specs.Amounts.{units};
+ghost use Rattle.amount_readings.specs.AmountReadings.{signedOf};
 ghost use Rattle.totals.specs.Totals.{sameℤ};
-ghost use Rattle.text.specs.Text.{part};
-ghost use Rattle.records.specs.Records.{field};
-ghost use Rattle.headers.specs.Headers.{isNumber, isOurs, isListed, countsRecords};
-ghost use Rattle.headers.specs.Steps.{isGroup};
-use amounts::Amount;
+ghost use Rattle.headers.specs.Headers.{isNumber};
+ghost use Rattle.headers.specs.Steps.{isSender};
 use digits::Number;
 
-// The bytes of field k of the record from a to e.
-fn field_bytes(file: &[u8], a: usize, e: usize, k: usize) -> &[u8]
-    requires { ⌜ (a ≤ e) × (e ≤ length (now file)) ⌝ }
-    ensures { λ r. ⌜ now r ≡ field k (part (now (file .entry)) a e) ⌝ }
+// Test 11: whether the retailer that the header says is the given one. A number is held as itself and one; 0 says none.
+pub fn is_ours(said: u64, retailer: u64) -> bool
+    ensures { λ r. ⌜ r ≡ eqb said (retailer + 1) ⌝ }
 {
-    let place = records::field_at(file, a, e, k);
-    let start = place.0;
-    let end = place.1;
-    &file[start..end]
+    if said == 0 {
+        return false;
+    }
+    said - 1 == retailer
 }
 
 // Whether what was read is the number n.
@@ -34,26 +32,15 @@ fn is_number(read: Number, n: u64) -> bool
     }
 }
 
-// Test 11: whether the retailer of the header from a to e is the given one.
-pub fn is_ours(file: &[u8], a: usize, e: usize, retailer: u64) -> bool
-    requires { ⌜ (a ≤ e) × (e ≤ length (now file)) ⌝ }
-    ensures { λ r. ⌜ r ≡ isOurs retailer (part (now (file .entry)) a e) ⌝ }
-{
-    is_number(
-        digits::fixed_digits(field_bytes(file, a, e, 4), 9),
-        retailer,
-    )
-}
-
-// Whether the sender is one of the distributors' groups of four bytes.
-fn is_among(distributors: &[u8], sender: &[u8]) -> bool
-    ensures { λ r. ⌜ r ≡ someBelow (isGroup (now (distributors .entry)) (now (sender .entry))) (length (now (distributors .entry)) / 4) ⌝ }
+// Whether one of the distributors' groups of four bytes is four digits whose number is the sender.
+fn is_among(distributors: &[u8], sender: u64) -> bool
+    ensures { λ r. ⌜ r ≡ someBelow (isSender (now (distributors .entry)) sender) (length (now (distributors .entry)) / 4) ⌝ }
 {
     let mut g: usize = 0;
     while g < distributors.len() / 4 {
         let start = 4 * g;
         let end = start + 4;
-        if lists::same_bytes(&distributors[start..end], sender) {
+        if is_number(digits::fixed_digits(&distributors[start..end], 4), sender) {
             return true;
         }
         g += 1;
@@ -61,29 +48,20 @@ fn is_among(distributors: &[u8], sender: &[u8]) -> bool
     false
 }
 
-// Test 12: whether the sender of the header from a to e is one of the distributors.
-pub fn is_listed(file: &[u8], a: usize, e: usize, distributors: &[u8]) -> bool
-    requires { ⌜ (a ≤ e) × (e ≤ length (now file)) ⌝ }
-    ensures { λ r. ⌜ r ≡ isListed (now (distributors .entry)) (part (now (file .entry)) a e) ⌝ }
+// Test 12: whether the sender that the header says is one of the distributors' groups of four digits.
+pub fn is_listed(said: u64, distributors: &[u8]) -> bool
+    ensures { λ r. ⌜ r ≡ cond (eqb said 0) false (someBelow (isSender (now (distributors .entry)) (said - 1)) (length (now (distributors .entry)) / 4)) ⌝ }
 {
-    is_among(distributors, field_bytes(file, a, e, 5))
-}
-
-// Whether an amount in whole units is n.
-fn is_count(amount: Amount, n: usize) -> bool
-    requires { ⌜ n ≤ 4096 ⌝ }
-    ensures { λ r. ⌜ r ≡ sameℤ (units amount) (pos n) ⌝ }
-{
-    match amount {
-        Amount::Value(x) => x == n as i64,
-        Amount::Misses => 0 == n,
+    if said == 0 {
+        return false;
     }
+    is_among(distributors, said - 1)
 }
 
-// Test 33: whether the trailer from a to e counts n records.
-pub fn counts_records(file: &[u8], a: usize, e: usize, n: usize) -> bool
-    requires { ⌜ (a ≤ e) × (e ≤ length (now file)) × (n ≤ 4096) ⌝ }
-    ensures { λ r. ⌜ r ≡ countsRecords (part (now (file .entry)) a e) n ⌝ }
+// Test 33: whether the record count that the trailer says, as amount_readings holds amounts, is n.
+pub fn counts_records(said: u64, n: usize) -> bool
+    requires { ⌜ n ≤ 4096 ⌝ }
+    ensures { λ r. ⌜ r ≡ sameℤ (signedOf said) (pos n) ⌝ }
 {
-    is_count(amounts::amount_of(field_bytes(file, a, e, 4), 9, 0), n)
+    amount_readings::signed(said) == n as i64
 }

@@ -13,7 +13,7 @@ use mathlib.Core.Bool.{Bool, true, false, cond}
 use Prim.Native.Nat.{ℕ, zero, suc, _+_, _≤_, _<_, zero-le}
 use native.Mathlib.Nat.{zero-add, suc-add}
 use native.Mathlib.Omega.{arith}
-use borrow.Author.Tests.{eq-eqb, ne-eqb, leb-true, leb-false}
+use borrow.Author.Tests.{eq-eqb, ne-eqb, eqb-true, eqb-false, leb-true, leb-false}
 use lib.Dec.{eqb, leb}
 use lib.ListN.{length, getD, take, drop, List·getD-eq-default}
 use lib.Seq.{length-take-le}
@@ -56,6 +56,16 @@ ends-there (b ∷ s) zero e h = sym (end-here b s (e .1 (omega arith)))
 ends-there (b ∷ s) (suc k) e h =
     let q = end-some b s k h in
     ap suc (ends-there s k (omega (arith, e .0), λ l. e .1 (omega arith)) (q .1)) ∙ sym (q .0)
+
+-- the field can end where it does
+pub end-ends : (s : List ℕ) → Ends s (fieldEnd s)
+unfolding firstWhere
+end-ends [] = (omega (arith, end-none), λ l. absurd (omega arith))
+end-ends (b ∷ s) = go (eqb b 44) refl (end-ends s)
+  where
+    go : (t : Bool) → eqb b 44 ≡ t → Ends s (fieldEnd s) → Ends (b ∷ s) (fieldEnd (b ∷ s))
+    go true e q = rw (end-here b s (eqb-true b 44 e)) (zero-le, λ l. eqb-true b 44 e)
+    go false e q = rw (end-first b s (eqb-false b 44 e)) (omega (arith, q .0), λ l. q .1 (omega arith))
 
 -- one byte more that isn't a comma
 pub end-more : (s : List ℕ) (k : ℕ) → k ≤ fieldEnd s → k < length s → (getD s k 0 ≡ 44 → ⊥) → k + 1 ≤ fieldEnd s

@@ -35,9 +35,15 @@ pub record DigitsRead (s : List ℕ) (r : Run) : Type 0 where
   pub digits : allDigits (take (r .len) s) ≡ true
   pub value : r .value ≡ numberOf (take (r .len) s)
 
+-- and there are no more of them: where they are fewer than 15, no digit stands after them
+pub record AllRead (s : List ℕ) (r : Run) : Type 0 where
+  pub read : DigitsRead s r
+  pub stops : r .len < 15 → r .len < length s → 48 ≤ getD s (r .len) 0 → getD s (r .len) 0 ≤ 57 → ⊥
+
 -- the bytes at the start of s before a comma, at most 4
 pub record TextRead (s : List ℕ) (r : Run) : Type 0 where
   pub inside : r .len ≤ length s
   pub few : r .len ≤ 4
   pub before : r .len ≤ fieldEnd s
   pub value : r .value ≡ packed (take (r .len) s)
+  pub stops : r .len < 4 → Ends s (r .len)

@@ -3,7 +3,7 @@ ghost use mathlib.Core.Path.{_≡_};
 ghost use mathlib.Core.Bool.{true, false};
 ghost use Prim.Native.Nat.{ℕ, _≤_, _<_};
 ghost use lib.ListN.{length, getD};
-ghost use Rattle.leading_bytes.specs.LeadingBytes.{Ends, DigitsRead, TextRead};
+ghost use Rattle.leading_bytes.specs.LeadingBytes.{Ends, DigitsRead, AllRead, TextRead};
 
 // The bytes that were read, and the number that they write.
 pub struct Run {
@@ -60,7 +60,7 @@ fn eight_digits(s: &[u8]) -> Run
 // The digits at the start of s, at most 15, of which some are read.
 fn more_digits(s: &[u8], run: Run) -> Run
     requires { ⌜ DigitsRead (now s) run ⌝ }
-    ensures { λ r. ⌜ DigitsRead (now (s .entry)) r ⌝ }
+    ensures { λ r. ⌜ AllRead (now (s .entry)) r ⌝ }
 {
     let n = if s.len() < 15 { s.len() } else { 15 };
     let mut value = run.value;
@@ -78,14 +78,14 @@ fn more_digits(s: &[u8], run: Run) -> Run
 
 // The digits at the start of s, at most 15.
 pub fn leading_digits(s: &[u8]) -> Run
-    ensures { λ r. ⌜ DigitsRead (now (s .entry)) r ⌝ }
+    ensures { λ r. ⌜ AllRead (now (s .entry)) r ⌝ }
 {
     more_digits(s, no_digits())
 }
 
 // What leading_digits says, where there are likely eight digits or more.
 pub fn many_leading_digits(s: &[u8]) -> Run
-    ensures { λ r. ⌜ DigitsRead (now (s .entry)) r ⌝ }
+    ensures { λ r. ⌜ AllRead (now (s .entry)) r ⌝ }
 {
     if s.len() < 8 {
         return leading_digits(s);
@@ -114,7 +114,7 @@ pub fn leading_text(s: &[u8]) -> Run
 // Whether the field at the start of s can end at k.
 pub fn ends_at(s: &[u8], k: usize) -> bool
     requires { ⌜ k ≤ length (now s) ⌝ }
-    ensures { λ r. ⌜ (r ≡ true → Ends (now (s .entry)) k) ⌝ }
+    ensures { λ r. ⌜ (r ≡ true → Ends (now (s .entry)) k) × (r ≡ false → Ends (now (s .entry)) k → ⊥) ⌝ }
 {
     if k == s.len() {
         return true;

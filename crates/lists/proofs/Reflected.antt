@@ -4,6 +4,7 @@
 --     neither-of    `a || b` is false exactly where both are
 --     not-both      `a && b` is false exactly where b is false if a is true
 --     both-of       `a && b` is true exactly where both are
+--     alike         two tests are equal where each passes if the other does
 --     denied        `not a` is false exactly where a is true
 --     same-bytes-is, empty-is    equality of bytes, and emptiness
 -- Assumes nothing.
@@ -37,6 +38,11 @@ not-both false b = (λ e q. absurd (true≢false (sym q)), λ q. refl)
 pub both-of : (a b : Bool) → (a && b ≡ true) ↔ ((a ≡ true) × (b ≡ true))
 both-of true b = (λ e. (refl, e), λ q. q .1)
 both-of false b = (λ e. absurd (true≢false (sym e)), λ q. q .0)
+
+pub alike : (a b : Bool) → (a ≡ true → b ≡ true) → (b ≡ true → a ≡ true) → a ≡ b
+alike true b f g = sym (f refl)
+alike false true f g = g refl
+alike false false f g = refl
 
 pub denied : (a : Bool) → (not a ≡ false) ↔ (a ≡ true)
 denied true = (λ e. refl, λ e. refl)

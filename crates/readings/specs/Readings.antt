@@ -1,9 +1,10 @@
 -- What is read of the field that stands at the start of a line's bytes: where it ends, and what it says as one number.
 -- Assumes nothing.
-use Prim.Native.Nat.{ℕ, _≤_}
+use Prim.Native.Nat.{ℕ, _-_, _≤_}
 use mathlib.Core.Path.{_≡_}
 use mathlib.Core.List.{List}
-use mathlib.Core.Bool.{true}
+use mathlib.Core.Bool.{Bool, true, false, _&&_}
+use lib.Dec.{leb}
 use Rattle.digits.specs.Digits.{digitsOf}
 use Rattle.calendar.specs.Calendar.{dayOf}
 use Rattle.amounts.specs.Amounts.{amountOf, units}
@@ -30,3 +31,17 @@ pub record FieldRead (t : FieldType) (s : List ℕ) (r : Reading) : Type 0 where
   pub ends : r .len ≡ fieldEnd s
   pub fits : fitsType t (leadingField s) ≡ true
   pub says : Says t (leadingField s) (r .number)
+
+-- whether the field at the start of s fits a type, and then what is read of it
+abbrev pub FieldTold : FieldType → List ℕ → Reading → Type 0
+FieldTold t s r = (r .fits ≡ true → FieldRead t s r) × (r .fits ≡ false → fitsType t (leadingField s) ≡ false)
+
+-- a type that is read so: those of the tables are (a number's parts have at most 15 digits, and a text of fixed length at most four bytes)
+unfoldable pub isNarrow : FieldType → Bool
+isNarrow RecordId = true
+isNarrow (Digits width) = true
+isNarrow (Number precision places) = leb (precision - places) 15 && leb places 15
+isNarrow Date = true
+isNarrow DateTime = true
+isNarrow (Char width) = leb width 4
+isNarrow (Varchar width) = true

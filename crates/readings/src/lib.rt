@@ -1,12 +1,13 @@
 // Readings: the field at the start of a line's bytes, read in one pass: where it ends, whether it fits its type, and what it says as one number.
-// A reading that fits is certain; where it doesn't fit, nothing is known.
+// A reading is certain: it fits where the field does, and where the field does not fit it does not.
 ghost use mathlib.Core.Path.{_≡_};
 ghost use mathlib.Core.Bool.{true};
+ghost use Prim.Native.Nat.{_-_, _≤_};
 ghost use Rattle.calendar.specs.Calendar.{firstDays};
 ghost use Rattle.fields.specs.declared.FieldType.the-variants.{RecordId, Digits, Number, Date, DateTime, Char, Varchar};
 ghost use Rattle.field_types.specs.Codes.{typeOfCode};
-ghost use Rattle.leading_bytes.specs.LeadingBytes.{DigitsRead};
-ghost use Rattle.readings.specs.Readings.{FieldRead};
+ghost use Rattle.leading_bytes.specs.LeadingBytes.{AllRead};
+ghost use Rattle.readings.specs.Readings.{FieldTold, isNarrow};
 use calendar::Day;
 use fields::FieldType;
 use leading_bytes::Reading;
@@ -16,8 +17,8 @@ use leading_bytes::reads;
 
 // The ID that some digits at the start of s are, where they end the field.
 fn id_of(s: &[u8], run: Run) -> Reading
-    requires { ⌜ DigitsRead (now s) run ⌝ }
-    ensures { λ r. ⌜ (r .fits ≡ true → FieldRead RecordId (now (s .entry)) r) ⌝ }
+    requires { ⌜ AllRead (now s) run ⌝ }
+    ensures { λ r. ⌜ FieldTold RecordId (now (s .entry)) r ⌝ }
 {
     let len = run.len;
     if !leading_bytes::ends_at(s, len) {
@@ -31,21 +32,21 @@ fn id_of(s: &[u8], run: Run) -> Reading
 
 // A Record, Parent or Reference ID.
 pub fn read_id(s: &[u8]) -> Reading
-    ensures { λ r. ⌜ (r .fits ≡ true → FieldRead RecordId (now (s .entry)) r) ⌝ }
+    ensures { λ r. ⌜ FieldTold RecordId (now (s .entry)) r ⌝ }
 {
     id_of(s, leading_bytes::leading_digits(s))
 }
 
 // The same, where it is likely to have eight digits or more.
 fn read_long_id(s: &[u8]) -> Reading
-    ensures { λ r. ⌜ (r .fits ≡ true → FieldRead RecordId (now (s .entry)) r) ⌝ }
+    ensures { λ r. ⌜ FieldTold RecordId (now (s .entry)) r ⌝ }
 {
     id_of(s, leading_bytes::many_leading_digits(s))
 }
 
 // An ID of just so many digits.
 fn read_digits(s: &[u8], width: usize) -> Reading
-    ensures { λ r. ⌜ (r .fits ≡ true → FieldRead (Digits width) (now (s .entry)) r) ⌝ }
+    ensures { λ r. ⌜ FieldTold (Digits width) (now (s .entry)) r ⌝ }
 {
     let id = read_long_id(s);
     let len = id.len;
@@ -60,7 +61,7 @@ fn read_digits(s: &[u8], width: usize) -> Reading
 
 fn read_date(days: &[u64], s: &[u8]) -> Reading
     requires { ⌜ now days ≡ firstDays ⌝ }
-    ensures { λ r. ⌜ (r .fits ≡ true → FieldRead Date (now (s .entry)) r) ⌝ }
+    ensures { λ r. ⌜ FieldTold Date (now (s .entry)) r ⌝ }
 {
     let id = read_long_id(s);
     let fits = id.fits;
@@ -83,7 +84,7 @@ fn read_date(days: &[u64], s: &[u8]) -> Reading
 
 fn read_date_time(days: &[u64], s: &[u8]) -> Reading
     requires { ⌜ now days ≡ firstDays ⌝ }
-    ensures { λ r. ⌜ (r .fits ≡ true → FieldRead DateTime (now (s .entry)) r) ⌝ }
+    ensures { λ r. ⌜ FieldTold DateTime (now (s .entry)) r ⌝ }
 {
     let len = lists::find(s, 44);
     if fields::fits(days, FieldType::DateTime, &s[..len]) {
@@ -93,7 +94,8 @@ fn read_date_time(days: &[u64], s: &[u8]) -> Reading
 }
 
 fn read_number(s: &[u8], precision: usize, places: usize) -> Reading
-    ensures { λ r. ⌜ (r .fits ≡ true → FieldRead (Number precision places) (now (s .entry)) r) ⌝ }
+    requires { ⌜ (precision - places ≤ 15) × (places ≤ 15) ⌝ }
+    ensures { λ r. ⌜ FieldTold (Number precision places) (now (s .entry)) r ⌝ }
 {
     let first = leading_bytes::next_byte(s, 0);
     if first == 44 {
@@ -116,7 +118,8 @@ fn read_number(s: &[u8], precision: usize, places: usize) -> Reading
 }
 
 pub fn read_char(s: &[u8], width: usize) -> Reading
-    ensures { λ r. ⌜ (r .fits ≡ true → FieldRead (Char width) (now (s .entry)) r) ⌝ }
+    requires { ⌜ width ≤ 4 ⌝ }
+    ensures { λ r. ⌜ FieldTold (Char width) (now (s .entry)) r ⌝ }
 {
     let run = leading_bytes::leading_text(s);
     let len = run.len;
@@ -133,7 +136,7 @@ pub fn read_char(s: &[u8], width: usize) -> Reading
 }
 
 fn read_varchar(s: &[u8], width: usize) -> Reading
-    ensures { λ r. ⌜ (r .fits ≡ true → FieldRead (Varchar width) (now (s .entry)) r) ⌝ }
+    ensures { λ r. ⌜ FieldTold (Varchar width) (now (s .entry)) r ⌝ }
 {
     let run = leading_bytes::leading_text(s);
     let short = run.len;
@@ -155,8 +158,8 @@ fn read_varchar(s: &[u8], width: usize) -> Reading
 
 // The field of the type that a code stands for.
 pub fn read_field(days: &[u64], code: usize, s: &[u8]) -> Reading
-    requires { ⌜ now days ≡ firstDays ⌝ }
-    ensures { λ r. ⌜ (r .fits ≡ true → FieldRead (typeOfCode code) (now (s .entry)) r) ⌝ }
+    requires { ⌜ (now days ≡ firstDays) × (isNarrow (typeOfCode code) ≡ true) ⌝ }
+    ensures { λ r. ⌜ FieldTold (typeOfCode code) (now (s .entry)) r ⌝ }
 {
     let first = code / 256 % 256;
     match code / 65536 {

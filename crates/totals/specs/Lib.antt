@@ -1,3 +1,2 @@
-pub mod SlotSums
 pub mod Sums
 pub mod Totals

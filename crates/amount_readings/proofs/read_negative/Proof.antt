@@ -7,7 +7,8 @@ use Rattle.lists.proofs.First.{first-le}
 use Rattle.lists.specs.First.{isByte}
 use denote.Ref.{now}
 use lib.ListN.{drop, length-drop}
-use borrow.Author.Tests.{not-false}
+use borrow.Author.Tests.{not-false, not-true}
+use Rattle.amount_readings.proofs.Missed.{minus-field}
 use Prim.Native.Nat.{ℕ}
 use mathlib.Core.Path.{_≡_}
 use borrow.Author.Needs.{needs}
@@ -31,11 +32,16 @@ misses-requires : tie.Need-misses-requires
 misses-requires c κs = search needs
 
 returns : tie.Need-returns
-returns c = λ e. let z : _≡_ {A = ℕ} 0 1 = cc in absurd (omega arith)
+returns c =
+    let start = c .before .before .before .before .before in
+    let s = now (start .args .s) in (
+      λ e. let z : _≡_ {A = ℕ} 0 1 = cc in absurd (omega arith),
+      λ e. rw (minus-field s (start .pre .0) (start .pre .1)) (rw part-rest at (c .before .before .read-magnitude .ensures .1 (not-true _ (c .before .if1 .taken)))),
+    )
 
 -- the amount that stands after the minus
 size : (c : tie.Else1) → let a = c .before .before .before .before .args in MagnitudeRead (a .whole) (a .places) (drop 1 (now (a .s))) (c .before .read-magnitude .result)
-size c = simp part-rest at (c .before .read-magnitude .ensures (not-false _ (c .if1 .left)))
+size c = simp part-rest at (c .before .read-magnitude .ensures .0 (not-false _ (c .if1 .left)))
 
 add-reads : tie.Need-add-reads
 add-reads c = let s = now (c .before .before .before .before .args .s) in omega (arith, size c .ends, first-le (isByte 44) (drop 1 s), length-drop 1 s)
@@ -50,11 +56,13 @@ reads-requires : tie.Need-reads-requires
 reads-requires c κs = search needs
 
 returns-2 : tie.Need-returns-2
-returns-2 c =
-    λ e.
-    let start = c .before .before .before .before .before in
-    let a = start .args in
-    minus-read (a .whole) (a .places) (now (a .s)) (c .before .before .read-magnitude .result) (c .reads .result) (start .pre .0) (start .pre .1) (size (c .before)) (c .reads .ensures .1) (c .reads .ensures .2)
+returns-2 c = (
+  λ e.
+      let start = c .before .before .before .before .before in
+      let a = start .args in
+      minus-read (a .whole) (a .places) (now (a .s)) (c .before .before .read-magnitude .result) (c .reads .result) (start .pre .0) (start .pre .1) (size (c .before)) (c .reads .ensures .1) (c .reads .ensures .2),
+  λ e. let z : _≡_ {A = ℕ} 0 1 = cc in absurd (omega arith),
+)
 
 pub read-negative-spec : {M : Type 1} → statement M
 read-negative-spec =

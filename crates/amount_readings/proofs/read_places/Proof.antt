@@ -1,14 +1,17 @@
 -- `amount_readings::read_places` meets its contract: the digits before the point end the field, or a point and the digits after it do.
 -- Assumes nothing.
-use borrow.Author.Tests.{not-false}
+use borrow.Author.Tests.{not-false, not-true}
 use denote.Ref.{now}
 use lib.ListN.{length, getD, drop}
-use Prim.Native.Nat.{_+_, _<_, ℕ}
-use mathlib.Core.Path.{_≡_, sym, _∙_}
-use Rattle.leading_bytes.specs.LeadingBytes.{DigitsRead}
+use Prim.Native.Nat.{ℕ, _+_, _≤_, _<_}
+use mathlib.Core.Bool.{true}
+use mathlib.Core.Path.{_≡_, sym, _∙_, subst}
+use Rattle.leading_bytes.specs.LeadingBytes.{fieldEnd, leadingField, Ends, AllRead}
+use Rattle.amounts.specs.Amounts.{isUnsigned}
 use Rattle.lists.proofs.Parts.{part-rest}
-use Rattle.leading_bytes.proofs.Ends.{next-ends, next-inside, next-is}
+use Rattle.leading_bytes.proofs.Ends.{end-ends, next-ends, next-inside, next-is}
 use Rattle.amount_readings.proofs.Magnitudes.{whole-below, whole-read, places-below, places-read}
+use Rattle.amount_readings.proofs.Missed.{told-not, whole-next, places-are}
 use borrow.Author.Needs.{needs}
 use native.Mathlib.Omega.{arith}
 use Rattle.amount_readings.proofs.read_places.Statement.{statement}
@@ -18,24 +21,37 @@ next-byte-requires : tie.Need-next-byte-requires
 next-byte-requires c κs = search needs
 
 scaled-requires : tie.Need-scaled-requires
-scaled-requires c κs = let start = c .before .before .before in (whole-below _ _ _ _ (start .pre), omega arith, omega arith)
+scaled-requires c κs = let start = c .before .before .before in (whole-below _ _ _ _ (start .pre .0), omega arith, omega arith)
 
 reads-requires : tie.Need-reads-requires
 reads-requires c κs = search needs
 
 returns : tie.Need-returns
-returns c =
-    λ e.
-    let start = c .before .before .before .before .before in
-    let a = start .args in
-    let read = c .before .scaled .ensures in
-    whole-read (now (a .s)) (a .w) (a .p) (a .whole) (start .pre) (a .places) _ (next-ends (now (a .s)) (a .p) (start .pre .inside) (sym (c .before .before .before .next-byte .ensures) ∙ c .before .before .if1 .taken)) (c .reads .ensures .1) (λ h. c .reads .ensures .2 ∙ read .0 h) (rw (c .reads .ensures .2) (read .1))
+returns c = (
+  λ e.
+      let start = c .before .before .before .before .before in
+      let a = start .args in
+      let read = c .before .scaled .ensures in
+      whole-read (now (a .s)) (a .w) (a .p) (a .whole) (start .pre .0) (a .places) _ (next-ends (now (a .s)) (a .p) (start .pre .0 .inside) (sym (c .before .before .before .next-byte .ensures) ∙ c .before .before .if1 .taken)) (c .reads .ensures .1) (λ h. c .reads .ensures .2 ∙ read .0 h) (rw (c .reads .ensures .2) (read .1)),
+  λ e. let z : _≡_ {A = ℕ} 0 1 = cc in absurd (omega arith),
+)
 
 misses-requires : tie.Need-misses-requires
 misses-requires c κs = search needs
 
 returns-2 : tie.Need-returns-2
-returns-2 c = λ e. let z : _≡_ {A = ℕ} 0 1 = cc in absurd (omega arith)
+returns-2 c =
+    let start = c .before .before .before .before .before in
+    let a = start .args in
+    let w = start .pre .0 in
+    let next = c .before .before .before .next-byte .ensures in (
+      λ e. let z : _≡_ {A = ℕ} 0 1 = cc in absurd (omega arith),
+      λ e.
+          told-not _
+          (λ u.
+          c .before .if2 .taken
+          (next ∙ whole-next (now (a .s)) (a .p) (a .whole) (a .places) (w .inside) (w .digits) (w .longest) (start .pre .1) u (λ z. c .before .before .if1 .left (next ∙ z)))),
+    )
 
 -- a point stands at p
 dot : (c : tie.Else2) → let a = c .before .before .before .before .args in (a .p < length (now (a .s))) × (getD (now (a .s)) (a .p) 0 ≡ 46)
@@ -61,20 +77,30 @@ leading-digits-requires : tie.Need-leading-digits-requires
 leading-digits-requires c κs = search needs
 
 -- the digits after it
-after : (c : tie.After-leading-digits) → let a = c .before .before .before .before .before .before .args in DigitsRead (drop (a .p + 1) (now (a .s))) (c .leading-digits .result)
+after : (c : tie.After-leading-digits) → let a = c .before .before .before .before .before .before .args in AllRead (drop (a .p + 1) (now (a .s))) (c .leading-digits .result)
 after c = simp part-rest at (c .leading-digits .ensures)
+
+-- where the field is an amount, they are all that stand after the point
+found : (c : tie.After-leading-digits) → let a = c .before .before .before .before .before .before .args in isUnsigned (a .whole) (a .places) (leadingField (now (a .s))) ≡ true
+    → (1 ≤ c .leading-digits .result .len) × (c .leading-digits .result .len ≤ a .places) × (a .p + 1 + c .leading-digits .result .len ≡ fieldEnd (now (a .s)))
+found c u =
+    let start = c .before .before .before .before .before .before in
+    let a = start .args in
+    let w = start .pre .0 in
+    let point = dot (c .before .before) in
+    places-are (now (a .s)) (a .p) (a .whole) (a .places) (w .inside) (w .digits) (w .longest) (start .pre .1) u (c .leading-digits .result) (point .0) (point .1) (after c) (start .pre .2)
 
 misses-requires-2 : tie.Need-misses-requires-2
 misses-requires-2 c κs = search needs
 
 returns-3 : tie.Need-returns-3
-returns-3 c = λ e. let z : _≡_ {A = ℕ} 0 1 = cc in absurd (omega arith)
+returns-3 c = (λ e. let z : _≡_ {A = ℕ} 0 1 = cc in absurd (omega arith), λ e. told-not _ (λ u. omega (arith, found (c .before .before) u .0, c .before .if3 .taken)))
 
 misses-requires-3 : tie.Need-misses-requires-3
 misses-requires-3 c κs = search needs
 
 returns-4 : tie.Need-returns-4
-returns-4 c = λ e. let z : _≡_ {A = ℕ} 0 1 = cc in absurd (omega arith)
+returns-4 c = (λ e. let z : _≡_ {A = ℕ} 0 1 = cc in absurd (omega arith), λ e. told-not _ (λ u. omega (arith, found (c .before .before .before) u .1, c .before .if4 .taken)))
 
 add-ends-at : tie.Need-add-ends-at
 add-ends-at c = search needs
@@ -89,7 +115,12 @@ misses-requires-4 : tie.Need-misses-requires-4
 misses-requires-4 c κs = search needs
 
 returns-5 : tie.Need-returns-5
-returns-5 c = λ e. let z : _≡_ {A = ℕ} 0 1 = cc in absurd (omega arith)
+returns-5 c =
+    let p = c .before .before .before .before .before in
+    let s = now (p .before .before .before .before .before .before .args .s) in (
+      λ e. let z : _≡_ {A = ℕ} 0 1 = cc in absurd (omega arith),
+      λ e. told-not _ (λ u. c .before .before .ends-at .ensures .1 (not-true _ (c .before .if5 .taken)) (subst (λ (k : ℕ). Ends s k) (sym (found p u .2)) (end-ends s))),
+    )
 
 add-reads : tie.Need-add-reads
 add-reads c = search needs
@@ -102,8 +133,8 @@ scaled-requires-2 c κs =
     let start = c .before .before .before .before .before .before .before .before .before .before in
     let a = start .args in
     let point = dot (c .before .before .before .before .before .before) in (
-      whole-below _ _ _ _ (start .pre),
-      places-below (now (a .s)) (a .w) (a .p) (a .whole) (start .pre) (c .before .before .before .before .leading-digits .result) (point .0) (point .1) (after (c .before .before .before .before)),
+      whole-below _ _ _ _ (start .pre .0),
+      places-below (now (a .s)) (a .w) (a .p) (a .whole) (start .pre .0) (c .before .before .before .before .leading-digits .result) (point .0) (point .1) (after (c .before .before .before .before) .read),
       omega arith,
     )
 
@@ -111,13 +142,15 @@ reads-requires-2 : tie.Need-reads-requires-2
 reads-requires-2 c κs = search needs
 
 returns-6 : tie.Need-returns-6
-returns-6 c =
-    λ e.
-    let start = c .before .before .before .before .before .before .before .before .before .before .before .before in
-    let a = start .args in
-    let point = dot (c .before .before .before .before .before .before .before .before) in
-    let read = c .before .scaled2 .ensures in
-    places-read (now (a .s)) (a .w) (a .p) (a .whole) (start .pre) (c .before .before .before .before .before .before .leading-digits .result) (point .0) (point .1) (after (c .before .before .before .before .before .before)) (a .places) _ (c .before .before .before .ends-at .ensures (not-false _ (c .before .before .if5 .left))) (omega arith) (omega arith) (c .reads2 .ensures .1) (λ h. c .reads2 .ensures .2 ∙ read .0 h) (rw (c .reads2 .ensures .2) (read .1))
+returns-6 c = (
+  λ e.
+      let start = c .before .before .before .before .before .before .before .before .before .before .before .before in
+      let a = start .args in
+      let point = dot (c .before .before .before .before .before .before .before .before) in
+      let read = c .before .scaled2 .ensures in
+      places-read (now (a .s)) (a .w) (a .p) (a .whole) (start .pre .0) (c .before .before .before .before .before .before .leading-digits .result) (point .0) (point .1) (after (c .before .before .before .before .before .before) .read) (a .places) _ (c .before .before .before .ends-at .ensures .0 (not-false _ (c .before .before .if5 .left))) (omega arith) (omega arith) (c .reads2 .ensures .1) (λ h. c .reads2 .ensures .2 ∙ read .0 h) (rw (c .reads2 .ensures .2) (read .1)),
+  λ e. let z : _≡_ {A = ℕ} 0 1 = cc in absurd (omega arith),
+)
 
 pub read-places-spec : {M : Type 1} → statement M
 read-places-spec =

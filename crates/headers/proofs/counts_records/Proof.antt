@@ -1,24 +1,25 @@
--- `headers::counts_records` meets its contract: what its three callees answer, put into each other, is the definition of test 33.
+-- `headers::counts_records` meets its contract: two words are equal exactly where their values are (`words-same`).
 -- Assumes nothing.
-use Rattle.headers.specs.Headers.{countsRecords}
-use mathlib.Core.Path.{_≡_}
+use Rattle.lists.proofs.Signed.{pos-fits}
+use Rattle.totals.proofs.Laws.{words-same}
+use Rattle.totals.specs.Totals.{sameℤ}
+use lib.IntN.{ℤ, pos}
+use mathlib.Core.Path.{ap, _∙_}
 use borrow.Author.Needs.{needs}
+use native.Mathlib.Omega.{arith}
 use Rattle.headers.proofs.counts_records.Statement.{statement}
 use Rattle.headers.proofs.counts_records.Tie as tie
 
-field-bytes-requires : tie.Need-field-bytes-requires
-field-bytes-requires c κs = search needs
+signed-requires : tie.Need-signed-requires
+signed-requires c κs = search needs
 
-amount-of-requires : tie.Need-amount-of-requires
-amount-of-requires c κs = search needs
-
-is-count-requires : tie.Need-is-count-requires
-is-count-requires c κs = search needs
+cast-result : tie.Need-cast-result
+cast-result c = search needs
 
 returns : tie.Need-returns
-unfolding countsRecords
-returns c = simp (← c .before .before .field-bytes .ensures, ← c .before .amount-of .ensures, ← c .is-count .ensures)
+returns c =
+    let n = c .before .args .n in
+    words-same (c .signed .result) (pos n) (search needs) (pos-fits n (omega arith)) ∙ ap (λ (z : ℤ). sameℤ z (pos n)) (c .signed .ensures)
 
 pub counts-records-spec : {M : Type 1} → statement M
-counts-records-spec =
-    tie.close (tie.spec field-bytes-requires amount-of-requires is-count-requires returns)
+counts-records-spec = tie.close (tie.spec signed-requires cast-result returns)

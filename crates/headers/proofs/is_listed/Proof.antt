@@ -1,20 +1,21 @@
--- `headers::is_listed` meets its contract: what its two callees answer, put into each other, is the definition of test 12.
+-- `headers::is_listed` meets its contract: nothing that is said is no sender.
 -- Assumes nothing.
-use Rattle.headers.specs.Headers.{isListed}
-use mathlib.Core.Path.{_≡_}
 use borrow.Author.Needs.{needs}
+use borrow.Author.Tests.{eq-eqb, ne-eqb}
 use Rattle.headers.proofs.is_listed.Statement.{statement}
 use Rattle.headers.proofs.is_listed.Tie as tie
 
-field-bytes-requires : tie.Need-field-bytes-requires
-field-bytes-requires c κs = search needs
+returns : tie.Need-returns
+returns c = rw (eq-eqb (c .before .before .args .said) 0 (c .if1 .taken))
+
+sub-is-among : tie.Need-sub-is-among
+sub-is-among c = search needs
 
 is-among-requires : tie.Need-is-among-requires
 is-among-requires c κs = search needs
 
-returns : tie.Need-returns
-unfolding isListed
-returns c = simp (← c .before .field-bytes .ensures, ← c .is-among .ensures)
+returns-2 : tie.Need-returns-2
+returns-2 c = rw (ne-eqb (c .before .before .before .args .said) 0 (c .before .if1 .left)) (c .is-among .ensures)
 
 pub is-listed-spec : {M : Type 1} → statement M
-is-listed-spec = tie.close (tie.spec field-bytes-requires is-among-requires returns)
+is-listed-spec = tie.close (tie.spec returns sub-is-among is-among-requires returns-2)

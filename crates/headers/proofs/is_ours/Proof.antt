@@ -1,24 +1,22 @@
--- `headers::is_ours` meets its contract: what its three callees answer, put into each other, is the definition of test 11.
+-- `headers::is_ours` meets its contract: a number is held as itself and one.
 -- Assumes nothing.
-use Rattle.headers.specs.Headers.{isOurs}
-use mathlib.Core.Path.{_≡_}
+use mathlib.Core.Path.{sym}
+use Prim.Native.Nat.{_+_, _-_}
 use borrow.Author.Needs.{needs}
+use borrow.Author.Tests.{ne-eqb}
+use native.Mathlib.Omega.{arith}
+use Rattle.headers.proofs.Laws.{one-more}
 use Rattle.headers.proofs.is_ours.Statement.{statement}
 use Rattle.headers.proofs.is_ours.Tie as tie
 
-field-bytes-requires : tie.Need-field-bytes-requires
-field-bytes-requires c κs = search needs
-
-fixed-digits-requires : tie.Need-fixed-digits-requires
-fixed-digits-requires c κs = search needs
-
-is-number-requires : tie.Need-is-number-requires
-is-number-requires c κs = search needs
-
 returns : tie.Need-returns
-unfolding isOurs
-returns c = simp (← c .before .before .field-bytes .ensures, ← c .before .fixed-digits .ensures, ← c .is-number .ensures)
+returns c = sym (ne-eqb (c .before .args .said) (c .before .args .retailer + 1) (λ e. omega arith))
+
+sub-result : tie.Need-sub-result
+sub-result c = search needs
+
+returns-2 : tie.Need-returns-2
+returns-2 c = let s = c .before in one-more (s .args .said) (s .args .said - 1) (s .args .retailer) (omega arith)
 
 pub is-ours-spec : {M : Type 1} → statement M
-is-ours-spec =
-    tie.close (tie.spec field-bytes-requires fixed-digits-requires is-number-requires returns)
+is-ours-spec = tie.close (tie.spec returns sub-result returns-2)

@@ -33,7 +33,8 @@ shared-slice-read-b c = search needs
 returns : tie.Need-returns Inv-loop μ-loop
 returns c =
     let p = c .before .before .before .loop in
-    record { inside = omega (arith, p .inv); few = omega (arith, p .inv); before = p .inv .4; value = p .inv .5 }
+    let s = now (c .before .before .before .before .before .before .args .s) in
+    record { inside = omega (arith, p .inv); few = omega (arith, p .inv); before = p .inv .4; value = p .inv .5; stops = λ h. (omega (arith, p .inv), λ l. c .if2 .taken) }
 
 mul-value : tie.Need-mul-value Inv-loop μ-loop
 mul-value c =
@@ -70,7 +71,13 @@ loop-again c =
 returns-2 : tie.Need-returns-2 Inv-loop μ-loop
 returns-2 c =
     let p = c .before .loop in
-    record { inside = omega (arith, p .inv); few = omega (arith, p .inv); before = p .inv .4; value = p .inv .5 }
+    record {
+      inside = omega (arith, p .inv);
+      few = omega (arith, p .inv);
+      before = p .inv .4;
+      value = p .inv .5;
+      stops = λ h. (omega (arith, p .inv), λ l. absurd (⊎-elim (λ w. omega (arith, p .inv, c .loop-test .left)) (λ w. omega (arith, p .inv, c .loop-test .left)) (c .before .before .if1 .came)));
+    }
 
 pub leading-text-spec : {M : Type 1} → statement M
 leading-text-spec =

@@ -40,7 +40,12 @@ wrapping-sub-u64-requires : tie.Need-wrapping-sub-u64-requires Inv-loop μ-loop
 wrapping-sub-u64-requires c κs = search needs
 
 returns : tie.Need-returns Inv-loop μ-loop
-returns c = let p = c .before .before .before .before .before in record { inside = omega arith; few = omega arith; digits = p .loop .inv .3; value = p .loop .inv .4 }
+returns c =
+    let p = c .before .before .before .before .before in
+    record {
+      read = record { inside = omega arith; few = omega arith; digits = p .loop .inv .3; value = p .loop .inv .4 };
+      stops = λ few within low high. omega (arith, c .before .wrapping-sub-u64 .ensures, c .before .before .wide .ensures, c .if2 .taken);
+    }
 
 -- the number so far has at most 15 digits
 small : (c : tie.At-loop Inv-loop μ-loop) → c .loop .value < 10 ^ 15
@@ -74,7 +79,12 @@ loop-again c =
     )
 
 returns-2 : tie.Need-returns-2 Inv-loop μ-loop
-returns-2 c = let p = c .before in record { inside = omega arith; few = omega arith; digits = p .loop .inv .3; value = p .loop .inv .4 }
+returns-2 c =
+    let p = c .before in
+    record {
+      read = record { inside = omega arith; few = omega arith; digits = p .loop .inv .3; value = p .loop .inv .4 };
+      stops = λ few within low high. ⊎-elim (λ w. omega arith) (λ w. omega arith) (p .before .if1 .came);
+    }
 
 pub more-digits-spec : {M : Type 1} → statement M
 more-digits-spec =

@@ -1,8 +1,11 @@
 -- `readings::read_field` meets its contract: each arm reads the type that the code stands for.
 -- Assumes nothing.
 use Rattle.field_types.specs.Codes.{typeOfCode}
-use borrow.Author.Tests.{ne-eqb}
-use Prim.Native.Nat.{_/_}
+use borrow.Author.Tests.{ne-eqb, leb-true}
+use lib.Dec.{leb}
+use Rattle.digits.proofs.Laws.{both-true}
+use Rattle.readings.specs.Readings.{isNarrow}
+use Prim.Native.Nat.{_/_, _%_, _-_}
 use borrow.Author.Needs.{needs}
 use Rattle.readings.proofs.read_field.Statement.{statement}
 use Rattle.readings.proofs.read_field.Tie as tie
@@ -11,7 +14,11 @@ read-digits-requires : tie.Need-read-digits-requires
 read-digits-requires c κs = search needs
 
 read-number-requires : tie.Need-read-number-requires
-read-number-requires c κs = search needs
+unfolding typeOfCode isNarrow
+read-number-requires c κs =
+    let start = c .before .before .before in
+    let narrow = both-true (leb (start .args .code / 256 % 256 - start .args .code % 256) 15) (leb (start .args .code % 256) 15) (rw (c .match .keys2) at (start .pre .1)) in
+    (leb-true _ 15 (narrow .0), leb-true _ 15 (narrow .1))
 
 read-date-requires : tie.Need-read-date-requires
 read-date-requires c κs = search needs
@@ -20,7 +27,10 @@ read-date-time-requires : tie.Need-read-date-time-requires
 read-date-time-requires c κs = search needs
 
 read-char-requires : tie.Need-read-char-requires
-read-char-requires c κs = search needs
+unfolding typeOfCode isNarrow
+read-char-requires c κs =
+    let start = c .before .before .before in
+    leb-true (start .args .code / 256 % 256) 4 (rw (c .match .keys5) at (start .pre .1))
 
 read-varchar-requires : tie.Need-read-varchar-requires
 read-varchar-requires c κs = search needs
@@ -30,32 +40,31 @@ read-id-requires c κs = search needs
 
 returns : tie.Need-returns
 unfolding typeOfCode
-returns c = λ e. rw (c .before .match .keys1) (c .read-digits .ensures e)
+returns c = rw (c .before .match .keys1) (c .read-digits .ensures)
 
 returns-2 : tie.Need-returns-2
 unfolding typeOfCode
-returns-2 c = λ e. rw (c .before .match .keys2) (c .read-number .ensures e)
+returns-2 c = rw (c .before .match .keys2) (c .read-number .ensures)
 
 returns-3 : tie.Need-returns-3
 unfolding typeOfCode
-returns-3 c = λ e. rw (c .before .match .keys3) (c .read-date .ensures e)
+returns-3 c = rw (c .before .match .keys3) (c .read-date .ensures)
 
 returns-4 : tie.Need-returns-4
 unfolding typeOfCode
-returns-4 c = λ e. rw (c .before .match .keys4) (c .read-date-time .ensures e)
+returns-4 c = rw (c .before .match .keys4) (c .read-date-time .ensures)
 
 returns-5 : tie.Need-returns-5
 unfolding typeOfCode
-returns-5 c = λ e. rw (c .before .match .keys5) (c .read-char .ensures e)
+returns-5 c = rw (c .before .match .keys5) (c .read-char .ensures)
 
 returns-6 : tie.Need-returns-6
 unfolding typeOfCode
-returns-6 c = λ e. rw (c .before .match .keys6) (c .read-varchar .ensures e)
+returns-6 c = rw (c .before .match .keys6) (c .read-varchar .ensures)
 
 returns-7 : tie.Need-returns-7
 unfolding typeOfCode
 returns-7 c =
-    λ e.
     let kind = c .before .before .before .before .args .code / 65536 in
     let no = c .before .match .rest in
     rw (
@@ -65,7 +74,7 @@ returns-7 c =
       ne-eqb kind 4 (no .0 .0 .1),
       ne-eqb kind 5 (no .0 .1),
       ne-eqb kind 6 (no .1),
-    ) (c .read-id .ensures e)
+    ) (c .read-id .ensures)
 
 pub read-field-spec : {M : Type 1} → statement M
 read-field-spec =

@@ -1,47 +1,22 @@
--- `record_ids::first_of_few` meets its contract: each way that answers is shown, and the last compares all pairs.
+-- `record_ids::first_of_few` meets its contract: the tree's search is test 9's (`tree-first`).
 -- Assumes nothing.
-use Rattle.record_ids.proofs.Search.{different-end}
+use mathlib.Core.Path.{_∙_}
 use denote.Ref.{now}
-use mathlib.Core.Path.{_≡_, sym}
+use lib.Dec.{lit<, lit≤}
 use borrow.Author.Needs.{needs}
+use native.Mathlib.Omega.{arith}
+use Rattle.record_ids.proofs.Search.{tree-asks, tree-first}
 use Rattle.record_ids.proofs.first_of_few.Statement.{statement}
 use Rattle.record_ids.proofs.first_of_few.Tie as tie
 
-rises-requires : tie.Need-rises-requires
-rises-requires c κs = search needs
+slice-aggregate-first-repeated : tie.Need-slice-aggregate-first-repeated
+slice-aggregate-first-repeated c = search needs
+
+first-repeated-requires : tie.Need-first-repeated-requires
+first-repeated-requires c κs = tree-asks (now (c .before .before .args .ids)) 1024 3072 (lit< tt) (lit≤ tt) (omega arith) (omega arith)
 
 returns : tie.Need-returns
-returns c =
-    let ids = now (c .before .before .before .args .ids) in
-    sym (different-end ids (c .before .rises .ensures (c .if1 .taken)))
-
-first-by-buckets-requires : tie.Need-first-by-buckets-requires
-first-by-buckets-requires c κs = search needs
-
-returns-2 : tie.Need-returns-2
-returns-2 c = c .before .first-by-buckets .ensures (c .if2 .taken)
-
-first-by-sort-requires : tie.Need-first-by-sort-requires
-first-by-sort-requires c κs = search needs
-
-returns-3 : tie.Need-returns-3
-returns-3 c = c .before .first-by-sort .ensures (c .if3 .taken)
-
-first-by-scan-requires : tie.Need-first-by-scan-requires
-first-by-scan-requires c κs = search needs
-
-returns-4 : tie.Need-returns-4
-returns-4 c = search needs
+returns c = c .before .first-repeated .ensures .0 ∙ tree-first (now (c .before .before .before .before .args .ids))
 
 pub first-of-few-spec : {M : Type 1} → statement M
-first-of-few-spec =
-    tie.close
-    (tie.spec
-    rises-requires
-    returns
-    first-by-buckets-requires
-    returns-2
-    first-by-sort-requires
-    returns-3
-    first-by-scan-requires
-    returns-4)
+first-of-few-spec = tie.close (tie.spec slice-aggregate-first-repeated first-repeated-requires returns)

@@ -1,0 +1,6 @@
+pub mod FieldLoop
+pub mod Fields
+pub mod Filled
+pub mod Heads
+pub mod Lines
+pub mod Unread

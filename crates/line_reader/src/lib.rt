@@ -1,0 +1,303 @@
+// The reader: each line of a file is read once, and each field of it once, as its end is found. It answers the first line that fails test 2 or 3;
+// where none does, the first lines that fail 5 and 7, what the header and the trailer say, and the columns.
+ghost use mathlib.Core.Path.{_≡_};
+ghost use mathlib.Core.Bool.{true, false, not};
+ghost use Prim.Native.Nat.{ℕ, _≤_, _<_};
+ghost use lib.ListN.{length};
+ghost use Rattle.lists.specs.Bytes.{sameBytes};
+ghost use Rattle.lists.specs.FirstSoFar.{firstAfter};
+ghost use Rattle.lists.specs.Written.{written};
+ghost use Rattle.calendar.specs.Calendar.{firstDays};
+ghost use Rattle.text.specs.Text.{linesOf, part, Placed};
+ghost use Rattle.columns.specs.Columns.{Room, ColumnsRead};
+ghost use Rattle.columns.specs.Rows.{columnFields};
+ghost use Rattle.tables.specs.Tables.{markRows, joined};
+ghost use Rattle.field_types.specs.Codes.{codeRows};
+ghost use Rattle.records.specs.Records.{fieldAmong, fieldsAt, FieldsPlaced};
+ghost use Rattle.format.specs.Format.{lineAt, unformatted, firstUnformatted};
+ghost use Rattle.line_reader.specs.LineReader.{unread, firstUnread, headFilled, LineLent, HeadRead, AllRead};
+use records::Record;
+
+// What is answered of a file's lines: the line at which the reader stopped, or their number; then, where it read them all, the first lines that fail
+// tests 5 and 7, and the numbers that fields 4 and 5 of the first line and field 4 of the last say.
+pub struct LinesRead {
+    pub stopped: usize,
+    pub unfilled: usize,
+    pub miscoded: usize,
+    pub retailer: u64,
+    pub sender: u64,
+    pub counted: u64,
+}
+
+// A record's type, where its first three fields end, and whether they are filled as they must be.
+struct Head {
+    record_type: u64,
+    id_end: usize,
+    parent_end: usize,
+    type_end: usize,
+    filled: bool,
+}
+
+fn no_head() -> Head
+    ensures { λ r. ⌜ r .record_type ≡ 9 ⌝ }
+{
+    Head {
+        record_type: 9,
+        id_end: 0,
+        parent_end: 0,
+        type_end: 0,
+        filled: false,
+    }
+}
+
+// Whether the Record ID is filled, and the Parent ID is, but for FH, whose is empty. A type that is known fills the third field.
+fn head_filled(record_type: u64, id_len: usize, parent_len: usize) -> bool
+    ensures { λ r. ⌜ r ≡ headFilled record_type «id_len» «parent_len» ⌝ }
+{
+    if id_len == 0 {
+        return false;
+    }
+    if record_type == 0 {
+        return parent_len == 0;
+    }
+    parent_len != 0
+}
+
+// The first three fields of the line from a to e: its IDs and its type; 9 where one does not fit, or there are fewer, or the type is unknown.
+fn read_head(file: &[u8], a: usize, e: usize, numbers: &mut [u64; 24]) -> Head
+    requires { ⌜ LineLent (now file) a e (now numbers) ⌝ }
+    ensures { λ r. ⌜ (r .record_type < 9 → HeadRead (now (file .entry)) (part (now (file .entry)) a e) a e r (now (numbers .exit))) ⌝ }
+    ensures { λ r. ⌜ (9 ≤ r .record_type → unread (part (now (file .entry)) a e) ≡ true) ⌝ }
+{
+    let id = readings::read_id(&file[a..e]);
+    let id_fits = id.fits;
+    let id_len = id.len;
+    if !id_fits {
+        return no_head();
+    }
+    let id_end = a + id_len;
+    if e <= id_end {
+        return no_head();
+    }
+    let b = id_end + 1;
+    let parent = readings::read_id(&file[b..e]);
+    let parent_fits = parent.fits;
+    let parent_len = parent.len;
+    if !parent_fits {
+        return no_head();
+    }
+    let parent_end = b + parent_len;
+    if e <= parent_end {
+        return no_head();
+    }
+    let d = parent_end + 1;
+    let name = readings::read_char(&file[d..e], 2);
+    let name_fits = name.fits;
+    let type_len = name.len;
+    if !name_fits {
+        return no_head();
+    }
+    let type_end = d + type_len;
+    let record_type = types::type_named(&file[d..type_end]);
+    let filled = head_filled(record_type, id_len, parent_len);
+    numbers[1] = id.number;
+    numbers[2] = parent.number;
+    numbers[3] = name.number;
+    Head {
+        record_type,
+        id_end,
+        parent_end,
+        type_end,
+        filled,
+    }
+}
+
+// Whether a record whose fields stand at the first count of starts and ends names electricity as its commodity.
+fn is_electric<'a>(
+    file: &[u8],
+    starts: &'a [usize; 24],
+    ends: &'a [usize; 24],
+    count: usize,
+) -> bool
+    requires { ⌜ FieldsPlaced (now file) count (now starts) (now ends) ⌝ }
+    ensures { λ r. ⌜ r ≡ sameBytes (fieldAmong (fieldsAt (now (file .entry)) count (now (starts .entry)) (now (ends .entry))) 6) (written "EL") ⌝ }
+{
+    lists::same_bytes(records::field_among(file, starts, ends, count, 6), b"EL")
+}
+
+// The first line that fails a test, once line i of n is asked; n stands for none.
+fn first_so_far(passes: bool, first: usize, n: usize, i: usize) -> usize
+    ensures { λ r. ⌜ r ≡ firstAfter (not passes) first n i ⌝ }
+{
+    if passes {
+        return first;
+    }
+    if first == n {
+        return i;
+    }
+    first
+}
+
+// Reads the lines. The calendar's table, the tables' codes and marks, and the columns' fields are lent.
+fn read_lines_lent(
+    days: &[u64],
+    codes: &[usize],
+    marks: &[bool],
+    fields: &[[usize; 10]; 9],
+    file: &[u8],
+    starts: &[usize],
+    ends: &[usize],
+    n: usize,
+    words: &mut [u64],
+    charges: &mut [i64],
+    usages: &mut [i64],
+) -> LinesRead
+    requires { ⌜ Placed (now file) n (now starts) (now ends) (linesOf (now file)) × (1 ≤ n) ⌝ }
+    requires { ⌜ Room n (now words) (now charges) (now usages) × (length (now charges) ≤ 4096) ⌝ }
+    requires { ⌜ (now days ≡ firstDays) × (now codes ≡ joined codeRows) × (now marks ≡ joined markRows) × (now fields ≡ columnFields) ⌝ }
+    ensures { λ r. ⌜ r .stopped ≡ firstUnread (linesOf (now (file .entry))) ⌝ }
+    ensures { λ r. ⌜ (r .stopped ≡ length (linesOf (now (file .entry))) → AllRead (linesOf (now (file .entry))) r) ⌝ }
+    ensures { λ r. ⌜ (r .stopped ≡ length (linesOf (now (file .entry))) → ColumnsRead (linesOf (now (file .entry))) (now (words .exit)) (now (charges .exit)) (now (usages .exit))) ⌝ }
+{
+    let mut numbers = [0u64; 24];
+    let mut record = Record {
+        record_type: 9,
+        count: 0,
+        starts: [0; 24],
+        ends: [0; 24],
+    };
+    let mut electricity = false;
+    let mut unfilled = n;
+    let mut miscoded = n;
+    let mut retailer = 0u64;
+    let mut sender = 0u64;
+    let mut counted = 0u64;
+    let mut i: usize = 0;
+    'records: while i < n {
+        let start = starts[i];
+        let e = ends[i];
+        if format::has_unprintable(&file[start..e]) {
+            break 'records;
+        }
+        let head = read_head(file, start, e, &mut numbers);
+        let record_type = head.record_type;
+        if 9 <= record_type {
+            break 'records;
+        }
+        let id_end = head.id_end;
+        let parent_end = head.parent_end;
+        record.starts[0] = start;
+        record.ends[0] = id_end;
+        record.starts[1] = id_end + 1;
+        record.ends[1] = parent_end;
+        record.starts[2] = parent_end + 1;
+        record.ends[2] = head.type_end;
+        let count = tables::field_count(record_type);
+        let row = record_type as usize * 19;
+        let mut filled = head.filled;
+        let mut a = head.type_end + 1;
+        let mut k: usize = 3;
+        while k < count {
+            if e < a {
+                break 'records;
+            }
+            let field = readings::read_field(days, codes[row + k], &file[a..e]);
+            let fits = field.fits;
+            let len = field.len;
+            if !fits {
+                break 'records;
+            }
+            if len == 0 {
+                if marks[row + k] {
+                    filled = false;
+                }
+            }
+            record.starts[k] = a;
+            record.ends[k] = a + len;
+            numbers[k + 1] = field.number;
+            a = a + len + 1;
+            k += 1;
+        }
+        if a <= e {
+            break 'records;
+        }
+        record.record_type = record_type;
+        record.count = count;
+        if i == 0 {
+            electricity = is_electric(file, &record.starts, &record.ends, count);
+            retailer = numbers[4];
+            sender = numbers[5];
+        }
+        counted = numbers[4];
+        unfilled = first_so_far(filled, unfilled, n, i);
+        let coded = codes_and_rows::codes_stand(record_type, &numbers, electricity);
+        miscoded = first_so_far(coded, miscoded, n, i);
+        codes_and_rows::store_line(fields, &numbers, record_type, words, charges, usages, i);
+        i += 1;
+    }
+    LinesRead {
+        stopped: i,
+        unfilled,
+        miscoded,
+        retailer,
+        sender,
+        counted,
+    }
+}
+
+// Reads each of n lines, into the columns, up to the first that fails test 2 or 3.
+pub fn read_lines(
+    file: &[u8],
+    starts: &[usize],
+    ends: &[usize],
+    n: usize,
+    words: &mut [u64],
+    charges: &mut [i64],
+    usages: &mut [i64],
+) -> LinesRead
+    requires { ⌜ Placed (now file) n (now starts) (now ends) (linesOf (now file)) × (1 ≤ n) ⌝ }
+    requires { ⌜ Room n (now words) (now charges) (now usages) × (length (now charges) ≤ 4096) ⌝ }
+    ensures { λ r. ⌜ r .stopped ≡ firstUnread (linesOf (now (file .entry))) ⌝ }
+    ensures { λ r. ⌜ (r .stopped ≡ length (linesOf (now (file .entry))) → AllRead (linesOf (now (file .entry))) r) ⌝ }
+    ensures { λ r. ⌜ (r .stopped ≡ length (linesOf (now (file .entry))) → ColumnsRead (linesOf (now (file .entry))) (now (words .exit)) (now (charges .exit)) (now (usages .exit))) ⌝ }
+{
+    let days = calendar::first_days();
+    let codes = field_types::codes();
+    let marks = tables::marks();
+    let fields = columns::column_fields();
+    read_lines_lent(
+        &days,
+        &codes,
+        &marks,
+        &fields,
+        file,
+        starts,
+        ends,
+        n,
+        words,
+        charges,
+        usages,
+    )
+}
+
+// The first line that fails test 2, or n, where none before `from` does.
+pub fn first_unformatted(
+    file: &[u8],
+    starts: &[usize],
+    ends: &[usize],
+    n: usize,
+    from: usize,
+) -> usize
+    requires { ⌜ Placed (now file) n (now starts) (now ends) (linesOf (now file)) × (from ≤ n) ⌝ }
+    requires { ⌜ ((i : ℕ) → i < from → unformatted (lineAt (linesOf (now file)) i) ≡ false) ⌝ }
+    ensures { λ r. ⌜ r ≡ firstUnformatted (linesOf (now (file .entry))) ⌝ }
+{
+    let mut i = from;
+    while i < n {
+        if format::is_unformatted(file, starts[i], ends[i]) {
+            return i;
+        }
+        i += 1;
+    }
+    i
+}
