@@ -1,11 +1,11 @@
-// The first place that has a value, by buckets: a value is compared with the values of its bucket alone, and each different value is there once.
-// A place is held as itself and one, in 16 bits: columns of them are soon set to 0, and there are at most 65,535 places.
+// The first place that has a value, by buckets and a tree in each: a search looks at one place for each bit of its value at most, however the values are chosen.
+// A place is held as itself and one, in 16 bits: there are at most 65,535 places.
 ghost use mathlib.Core.Path.{_≡_};
-ghost use mathlib.Core.Bool.{true, cond};
-ghost use Prim.Native.Nat.{ℕ, _+_, _≤_, _<_};
-ghost use lib.Dec.{eqb};
+ghost use Prim.Native.Nat.{ℕ, _+_, _-_, _*_, _≤_, _<_};
 ghost use lib.ListN.{length, getD};
-ghost use Rattle.buckets.specs.Buckets.{firstPlace, Led, Distinct, bucketOf, Indexed};
+ghost use Rattle.buckets.specs.Buckets.{firstPlace, Led, bucketOf};
+ghost use Rattle.lists.specs.Below.{firstBelow};
+ghost use Rattle.buckets.specs.Trees.{Indexed, Searched, repeatsAt};
 
 // The bucket of a value, of so many.
 pub fn bucket(value: u64, size: usize) -> usize
@@ -16,93 +16,89 @@ pub fn bucket(value: u64, size: usize) -> usize
         / 4294967296) as usize
 }
 
-// The first of the first m places that has a value, or m, along the chain of its bucket; m + 1 where that takes more than `limit` steps.
-fn walk(values: &[u64], m: usize, heads: &[u16], links: &[u16], value: u64, limit: usize) -> usize
-    requires { ⌜ Indexed (now values) m (now heads) (now links) ⌝ }
-    ensures { λ r. ⌜ (r ≤ m → r ≡ firstPlace (now (values .entry)) m value) ⌝ }
-    ensures { λ r. ⌜ (m < limit → r ≤ m) ⌝ }
+// Where a search ends: the slot, and what it holds.
+pub struct Spot {
+    pub slot: usize,
+    pub held: usize,
+}
+
+// Searches the first m places for a value.
+fn search(values: &[u64], m: usize, size: usize, tree: &[u16], value: u64) -> Spot
+    requires { ⌜ (m ≤ length (now values)) × (0 < size) × (size ≤ 65536) × (size + 2 * m ≤ length (now tree)) × (m ≤ 65535) ⌝ }
+    requires { ⌜ Indexed size (now values) m (now tree) ⌝ }
+    ensures { λ r. ⌜ Searched size (now (values .entry)) m (now (tree .entry)) value r ⌝ }
 {
-    let mut held = heads[bucket(value, heads.len())] as usize;
-    let mut steps: usize = 0;
-    while steps < limit {
-        if held == 0 {
-            return m;
-        }
+    let mut slot = bucket(value, size);
+    let mut held = tree[slot] as usize;
+    let mut rest = value;
+    while held != 0 {
         if values[held - 1] == value {
-            return held - 1;
+            return Spot { slot, held };
         }
-        held = links[held - 1] as usize;
-        steps += 1;
+        let bit = (rest % 2) as usize;
+        slot = size + 2 * (held - 1) + bit;
+        held = tree[slot] as usize;
+        rest = rest / 2;
     }
-    m + 1
+    Spot { slot, held }
 }
 
-// What a bucket holds after the place i, whose leader is known: i, where it leads itself, or the latest from before.
-fn held_after(leader: usize, i: usize, latest: u16) -> u16
-    requires { ⌜ i < 65535 ⌝ }
-    ensures { λ r. ⌜ r ≡ cond (eqb leader i) (i + 1) latest ⌝ }
+// Puts the place m into the tree, unless an earlier one has its value, and answers the first place that has it.
+fn put(values: &[u64], m: usize, size: usize, tree: &mut [u16]) -> usize
+    requires { ⌜ (m < length (now values)) × (0 < size) × (size ≤ 65536) × (size + 2 * m + 2 ≤ length (now tree)) × (m < 65535) ⌝ }
+    requires { ⌜ Indexed size (now values) m (now tree) ⌝ }
+    ensures { λ r. ⌜ Indexed size (now (values .entry)) (m + 1) (now (tree .exit)) × (r ≡ firstPlace (now (values .entry)) m (getD (now (values .entry)) m 0)) ⌝ }
 {
-    if leader == i {
-        return (i + 1) as u16;
+    let spot = search(values, m, size, tree, values[m]);
+    let slot = spot.slot;
+    let held = spot.held;
+    if held != 0 {
+        return held - 1;
     }
-    latest
+    tree[slot] = (m + 1) as u16;
+    m
 }
 
-// Puts the first n places into their buckets, and the leader of each into `leaders`. False where a chain grows past `limit` steps.
-pub fn index(
-    values: &[u64],
-    n: usize,
-    heads: &mut [u16],
-    links: &mut [u16],
-    leaders: &mut [u16],
-    limit: usize,
-) -> bool
-    requires { ⌜ (n ≤ length (now values)) × (n ≤ length (now links)) × (n ≤ length (now leaders)) × (0 < length (now heads)) × (length (now heads) ≤ 65536) × (n ≤ 65535) ⌝ }
-    requires { ⌜ ((b : ℕ) → getD (now heads) b 0 ≡ 0) ⌝ }
-    ensures { λ r. ⌜ (r ≡ true → Indexed (now (values .entry)) n (now (heads .exit)) (now (links .exit)) × Led (now (values .entry)) n (now (leaders .exit)) n) ⌝ }
+// Puts the first n places into the tree, and the first place that has the value of each into `leaders`.
+pub fn index(values: &[u64], n: usize, size: usize, tree: &mut [u16], leaders: &mut [u16])
+    requires { ⌜ (n ≤ length (now values)) × (0 < size) × (size ≤ 65536) × (size + 2 * n ≤ length (now tree)) × (n ≤ 65535) × (n ≤ length (now leaders)) ⌝ }
+    requires { ⌜ ((s : ℕ) → getD (now tree) s 0 ≡ 0) ⌝ }
+    ensures { λ _. ⌜ Indexed size (now (values .entry)) n (now (tree .exit)) × Led (now (values .entry)) n (now (leaders .exit)) n ⌝ }
 {
     let mut i: usize = 0;
     while i < n {
-        let value = values[i];
-        let b = bucket(value, heads.len());
-        let latest = heads[b];
-        let leader = walk(values, i, heads, links, value, limit);
-        if i < leader {
-            return false;
-        }
-        heads[b] = held_after(leader, i, latest);
-        links[i] = latest;
-        leaders[i] = leader as u16;
+        leaders[i] = put(values, i, size, tree) as u16;
         i += 1;
     }
-    true
 }
 
-// Puts the first n places into their buckets, and answers how many it has put there: it stops where a value repeats, and where a chain grows past 32 steps.
-pub fn index_distinct(values: &[u64], n: usize, heads: &mut [u16], links: &mut [u16]) -> usize
-    requires { ⌜ (n ≤ length (now values)) × (n ≤ length (now links)) × (0 < length (now heads)) × (length (now heads) ≤ 65536) × (n ≤ 65535) ⌝ }
-    requires { ⌜ ((b : ℕ) → getD (now heads) b 0 ≡ 0) ⌝ }
-    ensures { λ r. ⌜ (r ≡ n → Indexed (now (values .entry)) n (now (heads .exit)) (now (links .exit)) × Distinct (now (values .entry)) n) ⌝ }
+// The first of the first n places whose value an earlier one has, or n; then all of them are in the tree.
+pub fn first_repeated(values: &[u64], n: usize, size: usize, tree: &mut [u16]) -> usize
+    requires { ⌜ (n ≤ length (now values)) × (0 < size) × (size ≤ 65536) × (size + 2 * n ≤ length (now tree)) × (n ≤ 65535) ⌝ }
+    requires { ⌜ ((s : ℕ) → getD (now tree) s 0 ≡ 0) ⌝ }
+    ensures { λ r. ⌜ r ≡ firstBelow (repeatsAt (now (values .entry))) n ⌝ }
+    ensures { λ r. ⌜ (r ≡ n → Indexed size (now (values .entry)) n (now (tree .exit))) ⌝ }
 {
     let mut i: usize = 0;
     while i < n {
-        let value = values[i];
-        let b = bucket(value, heads.len());
-        let latest = heads[b];
-        if walk(values, i, heads, links, value, 32) != i {
+        if put(values, i, size, tree) != i {
             return i;
         }
-        heads[b] = (i + 1) as u16;
-        links[i] = latest;
         i += 1;
     }
     n
 }
 
 // The first of the first n places that has a value, or n.
-pub fn place_of(values: &[u64], n: usize, heads: &[u16], links: &[u16], value: u64) -> usize
-    requires { ⌜ Indexed (now values) n (now heads) (now links) ⌝ }
+pub fn place_of(values: &[u64], n: usize, size: usize, tree: &[u16], value: u64) -> usize
+    requires { ⌜ (n ≤ length (now values)) × (0 < size) × (size ≤ 65536) × (size + 2 * n ≤ length (now tree)) × (n ≤ 65535) ⌝ }
+    requires { ⌜ Indexed size (now values) n (now tree) ⌝ }
     ensures { λ r. ⌜ r ≡ firstPlace (now (values .entry)) n value ⌝ }
 {
-    walk(values, n, heads, links, value, n + 1)
+    let spot = search(values, n, size, tree, value);
+    let held = spot.held;
+    if held == 0 {
+        return n;
+    }
+    held - 1
 }

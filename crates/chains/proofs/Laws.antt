@@ -16,9 +16,8 @@ use lib.Dec.{eqb}
 use lib.ListN.{length, length-set, getD, set}
 use lib.Seq.{getD-set-same, getD-set-other}
 use Rattle.lists.specs.Below.{firstBelow}
-use Rattle.lists.proofs.Below.{none-is-end}
+use Rattle.lists.proofs.Below.{first-is, none-is-end}
 use Rattle.buckets.specs.Buckets.{bucketOf}
-use Rattle.buckets.proofs.Laws.{first-is}
 use Rattle.chains.specs.Chains.{bucketAt, Latest, Headed, Linked, ChainRoom, Chained, Only, Walked}
 
 -- ---- one place more

@@ -1,11 +1,10 @@
 -- What callers learn of columns.
---     held-some                        a number or a day is held as itself and one
---     number-held, day-held            so what is held, less one, is the field's number or day
---     number-none, day-none            and 0 says that the field has none
+--     number-held                      what is held, less one, is the field's number
+--     number-none                      and 0 says that the field has none
 --     number-small                     a number that is read has at most 15 digits
 --     charge-bound, usage-bound        and so have the amounts of a line
 --     charges-bound, usages-bound      and those of a column
---     column-length, charges-length, usages-length    a column has one for each line
+--     usages-length                                   a column has one for each line
 --     column-at, charge-at, usage-at                  which is that of the line at its place
 -- Assumes nothing.
 use mathlib.Core.Path.{_≡_, refl, _∙_, ap}
@@ -31,24 +30,13 @@ use Rattle.columns.specs.Columns.{heldNumber, heldDay, fieldIn, charge, 
 less-one : {A : Type 0} (value : ℕ → A) (m n : ℕ) → m + 1 ≡ suc n → value m ≡ value n
 less-one value m n e = ap value (omega (arith, e))
 
-pub held-some : (n : ℕ) → (heldNumber (Value n) ≡ suc n) × (heldDay (At n) ≡ suc n)
-held-some n = (add-one n, add-one n)
-
 pub number-held : (x : Number) (n : ℕ) → heldNumber x ≡ suc n → x ≡ Value n
 number-held (Value m) n e = less-one Value m n e
 number-held Other n e = absurd (omega (arith, e))
 
-pub day-held : (x : Day) (n : ℕ) → heldDay x ≡ suc n → x ≡ At n
-day-held (At m) n e = less-one At m n e
-day-held NotADate n e = absurd (omega (arith, e))
-
 pub number-none : (x : Number) → heldNumber x ≡ 0 → x ≡ Other
 number-none (Value m) e = absurd (omega (arith, e))
 number-none Other e = refl
-
-pub day-none : (x : Day) → heldDay x ≡ 0 → x ≡ NotADate
-day-none (At m) e = absurd (omega (arith, e))
-day-none NotADate e = refl
 
 pub number-small : (s : List ℕ) (n : ℕ) → digitsOf s ≡ Value n → n < 10 ^ 15
 number-small s n e = ten-room (length s) (digits-bound s n e) (digits-say s n e .few)
@@ -90,12 +78,6 @@ module _ {A : Type 0} (f : List ℕ → A) (lines : List (List ℕ)) (column : L
   in-line d i h = ap (λ (l : List A). getD l i d) same ∙ map-at f [] d lines i h
 
 module _ {lines : List (List ℕ)} {words : List ℕ} {chargeColumn usageColumn : List ℤ} (r : ColumnsRead lines words chargeColumn usageColumn) (n : ℕ) (e : n ≡ length lines) where
-  pub column-length : (column : ℕ) → column < 8 → length (columnAt (length chargeColumn) column n words) ≡ n
-  column-length column h = rw e (as-long (numberIn column) lines _ (r .numbers column h))
-
-  pub charges-length : length (take n chargeColumn) ≡ n
-  charges-length = rw e (as-long chargeIn lines _ (r .charges))
-
   pub usages-length : length (take n usageColumn) ≡ n
   usages-length = rw e (as-long usageIn lines _ (r .usages))
 

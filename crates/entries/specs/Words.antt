@@ -21,10 +21,6 @@ pub record RoomFor (n : ℕ) (words : List ℕ) (amounts : List ℤ) : Type 0 wh
   pub in-words : wordsFor n ≤ length words
   pub in-amounts : amountsFor n ≤ length amounts
 
--- whether so many words and amounts have it
-unfoldable pub hasRoom : ℕ → ℕ → ℕ → Bool
-hasRoom n words amounts = leb n (words / 9) && leb n (amounts / 2)
-
 abbrev pub entryAt : List ℕ → List ℤ → ℕ → Entry
 entryAt words amounts i =
     record {

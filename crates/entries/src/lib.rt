@@ -3,7 +3,7 @@ ghost use mathlib.Core.Path.{_≡_};
 ghost use Prim.Native.Nat.{_+_};
 ghost use lib.ListN.{length};
 ghost use Rattle.entries.specs.Entries.{inState, period};
-ghost use Rattle.entries.specs.Words.{RoomFor, hasRoom, entryAt, writes, wordsAt, amountsAt};
+ghost use Rattle.entries.specs.Words.{RoomFor, entryAt, writes, wordsAt, amountsAt};
 use calendar::Period;
 
 // The fields of document 01, and nothing else.
@@ -40,16 +40,6 @@ impl Entry {
             end: self.end,
         }
     }
-}
-
-// Whether the words and the amounts have room for n entries.
-pub fn has_room(words: &[u64], amounts: &[i64], n: usize) -> bool
-    ensures { λ r. ⌜ r ≡ hasRoom n (length (now (words .entry))) (length (now (amounts .entry))) ⌝ }
-{
-    if words.len() / 9 < n {
-        return false;
-    }
-    n <= amounts.len() / 2
 }
 
 // The entry at a place of the words.

@@ -1,8 +1,7 @@
 // The type of each field of each record type, as Tables 4-2 to 4-10 have it.
 ghost use mathlib.Core.Path.{_≡_};
-ghost use Rattle.tables.specs.Tables.{fieldType, joined};
-ghost use Rattle.field_types.specs.Codes.{codeRows, typeOfCode};
-use fields::FieldType;
+ghost use Rattle.tables.specs.Tables.{joined};
+ghost use Rattle.field_types.specs.Codes.{codeRows};
 
 // The codes of the types: a byte each for the kind and for the two numbers of the type. (A table of enums takes long to check.)
 const RECORD_ID: usize = 0;
@@ -245,39 +244,9 @@ const CODES: [usize; 171] = [
     RECORD_ID,
 ];
 
-// The type that a code stands for.
-pub fn type_of_code(code: usize) -> FieldType
-    ensures { λ r. ⌜ r ≡ typeOfCode code ⌝ }
-{
-    let first = code / 256 % 256;
-    match code / 65536 {
-        1 => FieldType::Digits(first),
-        2 => FieldType::Number(first, code % 256),
-        3 => FieldType::Date,
-        4 => FieldType::DateTime,
-        5 => FieldType::Char(first),
-        6 => FieldType::Varchar(first),
-        _ => FieldType::RecordId,
-    }
-}
-
 // The codes of the types of the fields of the record types, 19 a type. A constant is put onto the stack where it is named: who asks often has it lent.
 pub fn codes() -> [usize; 171]
     ensures { λ r. ⌜ r ≡ joined codeRows ⌝ }
 {
     CODES
-}
-
-// The type of the field after k others of a record of a type, by the codes.
-pub fn field_type(codes: &[usize], record_type: u64, k: usize) -> FieldType
-    requires { ⌜ now codes ≡ joined codeRows ⌝ }
-    ensures { λ r. ⌜ r ≡ fieldType record_type k ⌝ }
-{
-    if 9 <= record_type {
-        return FieldType::RecordId;
-    }
-    if 19 <= k {
-        return FieldType::RecordId;
-    }
-    type_of_code(codes[record_type as usize * 19 + k])
 }

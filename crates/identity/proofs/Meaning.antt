@@ -3,7 +3,6 @@
 --     alike              tests 10, 17, 38: each record that has a place has its own value equal to that of the record there
 --     parent-ids         test 10: each record's Parent ID is the Record ID of the nearest earlier record of the type that its own asks for
 --     every-parent       in a file whose types follow each other as test 4 asks, each record but the first hangs under one
---     each-parent-id     test 10 in such a file: each record but the first has that nearest earlier record, and its Record ID as Parent ID
 -- Assumes nothing.
 use mathlib.Core.Path.{_≡_, refl, sym, _∙_, ap}
 use mathlib.Core.Bool.{Bool, true, false, cond, not, _&&_, _||_}
@@ -70,9 +69,6 @@ module _ (types : List ℕ) (i j : ℕ) (h : i < length types) where
       let there : parentPlace types i ≡ suc j = sym (parent-at types i h) ∙ q in
       let r = parent-type-there types i j there in
       (omega (arith, there, parent-before types i), r .0, r .1)
-
-one-nearest : (types : List ℕ) (i j k : ℕ) → i < length types → Nearest types i j → Nearest types i k → j ≡ k
-one-nearest types i j k h a b = omega (arith, nearest-place types i j h a, nearest-place types i k h b)
 
 module _ (types parents ids : List ℕ) where
   pub parent-ids : (firstUnlike (parentPlaces types) parents ids ≡ length types)
@@ -184,18 +180,3 @@ module _ (types : List ℕ) (first : at types 0 ≡ FH) (follow : (i : ℕ) → 
       go : (p : ℕ) → parentPlace types (suc i) ≡ p → 0 < parentPlace types (suc i)
       go zero q = absurd (parent-none types (suc i) q (parent .0) (parent .1) (parent .2))
       go (suc p) q = omega (arith, q)
-
-  parent-of : (i : ℕ) → 0 < i → i < length types → (j : ℕ) × Nearest types i j
-  parent-of i h l = go (parentPlace types i) refl (every-parent i h l)
-    where
-      go : (p : ℕ) → parentPlace types i ≡ p → 0 < parentPlace types i → (j : ℕ) × Nearest types i j
-      go zero q s = absurd (omega (arith, q))
-      go (suc j) q s = (j, place-nearest types i j l (parent-at types i l ∙ q))
-
-  pub each-parent-id : (parents ids : List ℕ) → (firstUnlike (parentPlaces types) parents ids ≡ length types)
-      ↔ ((i : ℕ) → 0 < i → i < length types → (j : ℕ) × Nearest types i j × (at parents i ≡ at ids j))
-  each-parent-id parents ids =
-      let law = parent-ids types parents ids in (
-        λ e i h l. let w = parent-of i h l in (w .0, w .1, law .0 e i (w .0) l (w .1)),
-        λ each. law .1 (λ i j l near. let w = each i (omega (arith, near .0)) l in w .2 ∙ ap (λ (k : ℕ). at ids k) (one-nearest types i (w .0) j l (w .1) near)),
-      )

@@ -3,7 +3,7 @@
 --     end-none, end-here, end-first, end-some    the end of no bytes; of bytes that a comma starts; of bytes that another byte starts
 --     ends-there                             a place at which the field can end, and no comma before it: the field ends there
 --     end-more, end-after                    one byte more that isn't a comma; what is left of the field after such bytes
---     before-comma, digits-before            bytes that aren't commas, and digits, stand before the field's end
+--     digits-before                          digits stand before the field's end
 --     same-byte                              a byte that stands in s is the same by any default
 --     next-ends, next-inside, next-is        the byte that is read at a place, where s may end
 -- Assumes nothing.
@@ -84,13 +84,6 @@ end-after (b ∷ s) (suc k) h =
     let q = end-some b s k h in
     let m = end-after s k (q .1) in
     q .0 ∙ ap suc m ∙ sym (suc-add k (fieldEnd (drop k s)))
-
-pub before-comma : (s : List ℕ) (k : ℕ) → k ≤ length s → ((j : ℕ) → j < k → getD s j 0 ≡ 44 → ⊥) → k ≤ fieldEnd s
-before-comma s zero l n = zero-le
-before-comma [] (suc k) l n = absurd (omega arith)
-before-comma (b ∷ s) (suc k) l n =
-    let m = before-comma s k (omega arith) (λ j h. n (suc j) (omega arith)) in
-    omega (arith, m, end-first b s (n 0 (omega arith)))
 
 pub digits-before : (s : List ℕ) (k : ℕ) → k ≤ length s → allDigits (take k s) ≡ true → k ≤ fieldEnd s
 unfolding allDigits

@@ -4,7 +4,7 @@
 --     lines-end, stops                       all are; line i fails
 --     line-stored                            the columns, with one line more
 -- Assumes nothing.
-use mathlib.Core.Path.{_≡_, sym, _∙_, ap, subst}
+use mathlib.Core.Path.{_≡_, sym, _∙_, ap}
 use mathlib.Core.List.{List}
 use mathlib.Core.Bool.{Bool, true, false, not, Bool·not-not}
 use Prim.Native.Nat.{ℕ, suc, _+_, _-_, _≤_, _<_}
@@ -88,8 +88,8 @@ module _ (lines : List (List ℕ)) (n : ℕ) where
   lines-more {i} {electricity′ = electricity′} {filled = filled} {coded = coded} {empty = empty} {wrong = wrong} s h r says u c m t =
       record {
         passing = below-more (λ (j : ℕ). unread (lineAt lines j) ≡ false) i (s .passing) (r .passes);
-        unfilled = subst (λ (x : ℕ). SoFar unfilledLine n (i + 1) x) (sym (u ∙ ap (λ (b : Bool). firstAfter b empty n i) fails)) (so-far-more unfilledLine n h (s .unfilled));
-        miscoded = subst (λ (x : ℕ). SoFar miscodedLine n (i + 1) x) (sym (m ∙ ap (λ (b : Bool). firstAfter b wrong n i) codes)) (so-far-more miscodedLine n h (s .miscoded));
+        unfilled = so-far-more unfilledLine n (s .unfilled) h fails u;
+        miscoded = so-far-more miscodedLine n (s .miscoded) h codes m;
         head = λ l. says;
         counted = λ l. let here : i + 1 - 1 ≡ i = omega arith in rw (t, here) (field-says r 3 (omega arith));
       }
@@ -109,8 +109,8 @@ module _ (lines : List (List ℕ)) (n : ℕ) where
   lines-end {r = r} s end all some =
       let says = s .head (omega (arith, end, some)) in
       record {
-        unfilled = so-far-end unfilledLine n (subst (λ (x : ℕ). SoFar unfilledLine n x (r .unfilled)) end (s .unfilled)) ∙ ap (firstBelow unfilledLine) all;
-        miscoded = so-far-end miscodedLine n (subst (λ (x : ℕ). SoFar miscodedLine n x (r .miscoded)) end (s .miscoded)) ∙ ap (firstBelow miscodedLine) all;
+        unfilled = so-far-end unfilledLine n (s .unfilled) (omega (arith, end)) ∙ ap (firstBelow unfilledLine) all;
+        miscoded = so-far-end miscodedLine n (s .miscoded) (omega (arith, end)) ∙ ap (firstBelow miscodedLine) all;
         retailer = says .retailer;
         sender = says .sender;
         counted = rw (sym all, sym end) (s .counted (omega (arith, end, some)));

@@ -18,8 +18,7 @@ use borrow.Author.Tests.{le-leb, lt-leb, ne-eqb, eq-eqb}
 use lib.Dec.{eqb, leb}
 use lib.ListN.{length, getD, List·getD-eq-default}
 use Rattle.lists.specs.Below.{firstBelow, someBelow}
-use Rattle.lists.proofs.Below.{first-holds, first-least, none-below, none-is-end, some-is, none-some}
-use Rattle.lists.proofs.FirstSoFar.{first-is}
+use Rattle.lists.proofs.Below.{first-holds, first-least, first-is, none-below, none-is-end, some-is, none-some}
 use Rattle.text.specs.Text.{fieldsOf}
 use Rattle.types.specs.Types.{typeNamed}
 use Rattle.fields.specs.Fields.{fitsType}
@@ -148,7 +147,7 @@ read-passes line e = neither-true (unformatted line) (someField unfit line) e
 -- ---- the first line that fails a test, by those before it
 module _ (fails : List ℕ → Bool) (lines : List (List ℕ)) (i : ℕ) (before : (j : ℕ) → j < i → fails (lineAt lines j) ≡ false) where
   pub first-here : i < length lines → fails (lineAt lines i) ≡ true → i ≡ firstBelow (λ (j : ℕ). fails (lineAt lines j)) (length lines)
-  first-here h e = sym (first-is (λ (j : ℕ). fails (lineAt lines j)) (length lines) i before h e)
+  first-here h e = sym (first-is (λ (j : ℕ). fails (lineAt lines j)) (length lines) i h e before)
 
   pub first-none : i ≡ length lines → i ≡ firstBelow (λ (j : ℕ). fails (lineAt lines j)) (length lines)
   first-none e = e ∙ sym (none-is-end (λ (j : ℕ). fails (lineAt lines j)) (length lines) (λ j h. before j (omega (arith, e))))
@@ -170,7 +169,7 @@ module _ (lines : List (List ℕ)) where
       let i = firstBelow (λ (j : ℕ). unread (lineAt lines j)) (length lines) in
       let here : unread (lineAt lines i) ≡ true = first-holds (λ (j : ℕ). unread (lineAt lines j)) (length lines) h in
       let formatted : unformatted (lineAt lines i) ≡ false = none-below (λ (j : ℕ). unformatted (lineAt lines j)) (length lines) none i h in
-      first-is (λ (j : ℕ). someField unfit (lineAt lines j)) (length lines) i (λ j l. passes-before j l .1) h (rw formatted at here)
+      first-is (λ (j : ℕ). someField unfit (lineAt lines j)) (length lines) i h (rw formatted at here) (λ j l. passes-before j l .1)
 
   -- where there is none, no line fails either
   pub all-pass : firstUnread lines ≡ length lines → (firstUnformatted lines ≡ length lines) × (firstUnfit lines ≡ length lines)

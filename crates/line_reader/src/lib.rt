@@ -1,11 +1,10 @@
 // The reader: each line of a file is read once, and each field of it once, as its end is found. It answers the first line that fails test 2 or 3;
 // where none does, the first lines that fail 5 and 7, what the header and the trailer say, and the columns.
 ghost use mathlib.Core.Path.{_≡_};
-ghost use mathlib.Core.Bool.{true, false, not};
+ghost use mathlib.Core.Bool.{true, false};
 ghost use Prim.Native.Nat.{ℕ, _≤_, _<_};
 ghost use lib.ListN.{length};
 ghost use Rattle.lists.specs.Bytes.{sameBytes};
-ghost use Rattle.lists.specs.FirstSoFar.{firstAfter};
 ghost use Rattle.lists.specs.Written.{written};
 ghost use Rattle.calendar.specs.Calendar.{firstDays};
 ghost use Rattle.text.specs.Text.{linesOf, part, Placed};
@@ -125,19 +124,6 @@ fn is_electric<'a>(
     lists::same_bytes(records::field_among(file, starts, ends, count, 6), b"EL")
 }
 
-// The first line that fails a test, once line i of n is asked; n stands for none.
-fn first_so_far(passes: bool, first: usize, n: usize, i: usize) -> usize
-    ensures { λ r. ⌜ r ≡ firstAfter (not passes) first n i ⌝ }
-{
-    if passes {
-        return first;
-    }
-    if first == n {
-        return i;
-    }
-    first
-}
-
 // Reads the lines. The calendar's table, the tables' codes and marks, and the columns' fields are lent.
 fn read_lines_lent(
     days: &[u64],
@@ -229,9 +215,9 @@ fn read_lines_lent(
             sender = numbers[5];
         }
         counted = numbers[4];
-        unfilled = first_so_far(filled, unfilled, n, i);
+        unfilled = lists::first_so_far(!filled, unfilled, n, i);
         let coded = codes_and_rows::codes_stand(record_type, &numbers, electricity);
-        miscoded = first_so_far(coded, miscoded, n, i);
+        miscoded = lists::first_so_far(!coded, miscoded, n, i);
         codes_and_rows::store_line(fields, &numbers, record_type, words, charges, usages, i);
         i += 1;
     }

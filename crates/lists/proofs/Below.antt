@@ -2,15 +2,16 @@
 --     Searched                              the invariant of a loop that stands at place i
 --     searched-none, -more, -here, -end     it holds at the start; one place more; the answer is here; the answer is the end
 --     first-at-most, first-holds, first-least    what the first place is
+--     first-is                              it is i, where the test holds at i and at no place before
 --     none-below, none-is-end               it is the end exactly where the test finds nothing
 --     some-holds, some-is, some-none        the same of `someBelow`
 --     first-same, some-same                 tests that agree below n have the same answer
---     nearest-at-most, nearest-holds, nearest-none, nearest-is    what the nearest place is
+--     nearest-at-most, nearest-holds, nearest-none    what the nearest place is
 --     count-none, count-more, count-kept    the count of a loop that stands at place n: at the start; one more; the same
---     count-at-most, count-zero, zero-count, count-same    what the count is: 0 exactly where the test finds nothing
+--     count-zero, zero-count                what the count is: 0 exactly where the test finds nothing
 -- Assumes nothing.
 use mathlib.Core.Path.{_≡_, refl, sym, _∙_, ap, subst}
-use mathlib.Core.Bool.{Bool, true, false, cond}
+use mathlib.Core.Bool.{Bool, true, false, cond, true≢false}
 use Prim.Native.Nat.{ℕ, zero, suc, _+_, _-_, _≤_, _<_}
 use native.Mathlib.Nat.{zero-add, add-zero, add-suc, suc-add, le-refl, suc-sub-suc, sub-zero}
 use native.Mathlib.Numerals.{add-one}
@@ -96,6 +97,14 @@ module _ (f : ℕ → Bool) where
 
     pub first-least : (j : ℕ) → j < firstBelow f n → f j ≡ false
     first-least j h = below .least j (omega arith) h
+
+    pub first-is : (i : ℕ) → i < n → f i ≡ true → ((j : ℕ) → j < i → f j ≡ false) → firstBelow f n ≡ i
+    first-is i h e before = go (decLt (firstBelow f n) i) (decLt i (firstBelow f n))
+      where
+        go : Dec (firstBelow f n < i) → Dec (i < firstBelow f n) → firstBelow f n ≡ i
+        go (yes l) u = absurd (true≢false (sym (first-holds (omega arith)) ∙ before (firstBelow f n) l))
+        go (no l) (yes u) = absurd (true≢false (sym e ∙ first-least i u))
+        go (no l) (no u) = omega (arith, l, u)
 
     -- the end is the answer exactly where the test finds nothing
     pub none-below : firstBelow f n ≡ n → (j : ℕ) → j < n → f j ≡ false
@@ -216,15 +225,6 @@ module _ (f : ℕ → Bool) where
   unfolding countBelow
   count-kept n e = rw add-one (rw (e, add-zero))
 
-  pub count-at-most : (n : ℕ) → countBelow f n ≤ n
-  unfolding countBelow
-  count-at-most zero = le-refl 0
-  count-at-most (suc n) = go (f n) (count-at-most n)
-    where
-      go : (b : Bool) → countBelow f n ≤ n → countBelow f n + cond b 1 0 ≤ suc n
-      go true h = omega arith
-      go false h = omega arith
-
   -- the count is 0 exactly where the test finds nothing
   pub count-zero : (n : ℕ) → countBelow f n ≡ 0 → (k : ℕ) → k < n → f k ≡ false
   unfolding countBelow
@@ -243,8 +243,3 @@ module _ (f : ℕ → Bool) where
   unfolding countBelow
   zero-count zero none = refl
   zero-count (suc n) none = rw (zero-count n (λ k h. none k (omega arith)), none n (omega arith))
-
-pub count-same : (f g : ℕ → Bool) (n : ℕ) → ((j : ℕ) → j < n → f j ≡ g j) → countBelow f n ≡ countBelow g n
-unfolding countBelow
-count-same f g zero same = refl
-count-same f g (suc n) same = rw (same n (omega arith), count-same f g n (λ j h. same j (omega arith)))

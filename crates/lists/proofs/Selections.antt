@@ -76,9 +76,6 @@ module _ {A B : Type 0} where
   count-map p f [] = refl
   count-map p f (x ∷ xs) = ap (λ (n : ℕ). cond (p (f x)) (suc n) n) (count-map p f xs)
 
-  pub map-ext : (f g : A → B) (xs : List A) → ((x : A) → f x ≡ g x) → map f xs ≡ map g xs
-  map-ext f g xs h = ap (λ (k : A → B). map k xs) (fun-ext h)
-
   -- f and g agree where the test passes
   pub map-filter-ext : (p : A → Bool) (f g : A → B) (xs : List A) → ((x : A) → p x ≡ true → f x ≡ g x) → map f (filter p xs) ≡ map g (filter p xs)
   map-filter-ext p f g [] h = refl
@@ -104,9 +101,6 @@ module _ {A : Type 0} where
   pub any-ext : (p q : A → Bool) (xs : List A) → ((x : A) → p x ≡ q x) → any p xs ≡ any q xs
   any-ext p q xs h = ap (λ (k : A → Bool). any k xs) (fun-ext h)
 
-  pub all-ext : (p q : A → Bool) (xs : List A) → ((x : A) → p x ≡ q x) → all p xs ≡ all q xs
-  all-ext p q xs h = ap (λ (k : A → Bool). all k xs) (fun-ext h)
-
   -- what passes p passes q: to select by q first changes nothing
   pub filter-under : (p q : A → Bool) (xs : List A) → ((x : A) → q x ≡ false → p x ≡ false) → filter p (filter q xs) ≡ filter p xs
   filter-under p q [] h = refl
@@ -129,16 +123,6 @@ module _ {A : Type 0} where
   any-filter p q [] = refl
   any-filter p q (x ∷ xs) = cases (q x) (λ e. rw (e, any-filter p q xs)) (λ e. rw e (any-filter p q xs))
 
-  pub any-filter-none : (p q : A → Bool) (xs : List A) → any p xs ≡ false → any p (filter q xs) ≡ false
-  any-filter-none p q [] h = refl
-  any-filter-none p q (x ∷ xs) h =
-      let n = neither (p x) (any p xs) h in
-      cases (q x) (λ e. rw (e, n .0) (any-filter-none p q xs (n .1))) (λ e. rw e (any-filter-none p q xs (n .1)))
-
-  pub filter-filter : (p q : A → Bool) (xs : List A) → filter p (filter q xs) ≡ filter (λ x. q x && p x) xs
-  filter-filter p q [] = refl
-  filter-filter p q (x ∷ xs) = cases (q x) (λ e. rw (e, filter-filter p q xs)) (λ e. rw e (filter-filter p q xs))
-
   pub any-append : (p : A → Bool) (xs ys : List A) → any p (xs ++ ys) ≡ (any p xs || any p ys)
   any-append p [] ys = refl
   any-append p (x ∷ xs) ys = rw (any-append p xs ys) (assoc (p x))
@@ -146,15 +130,6 @@ module _ {A : Type 0} where
       assoc : (b : Bool) → (b || (any p xs || any p ys)) ≡ (b || any p xs || any p ys)
       assoc true = refl
       assoc false = refl
-
-  -- a selection has no two that are the same, if the whole has none
-  pub distinct-filter : (same : A → A → Bool) (p : A → Bool) (xs : List A) → T (distinct same xs) → T (distinct same (filter p xs))
-  distinct-filter same p [] t = tt
-  distinct-filter same p (x ∷ xs) t =
-      let h = both (not (any (same x) xs)) (distinct same xs) t in
-      cases (p x)
-      (λ e. rw (e, any-filter-none (same x) p xs (is-false (any (same x) xs) (h .0))) (distinct-filter same p xs (h .1)))
-      (λ e. rw e (distinct-filter same p xs (h .1)))
 
   pub distinct-snoc : (same : A → A → Bool) (xs : List A) (y : A) → T (distinct same xs) → any (λ x. same x y) xs ≡ false → T (distinct same (xs ++ y ∷ []))
   distinct-snoc same [] y t h = tt
@@ -170,9 +145,6 @@ module _ {A : Type 0} where
   count-append p (x ∷ xs) ys = cases (p x)
       (λ e. rw (e, count-append p xs ys) (omega arith))
       (λ e. rw e (count-append p xs ys))
-
-  pub count-ext : (p q : A → Bool) (xs : List A) → ((x : A) → p x ≡ q x) → count p xs ≡ count q xs
-  count-ext p q xs h = ap (λ (k : A → Bool). count k xs) (fun-ext h)
 
   pub count-mono : (p q : A → Bool) (xs : List A) → ((x : A) → p x ≡ true → q x ≡ true) → count p xs ≤ count q xs
   count-mono p q [] h = omega arith
@@ -253,17 +225,6 @@ module _ {A : Type 0} where
 
   -- ---- more on tests
 
-  pub any-of-filter : (p q : A → Bool) (xs : List A) → any p (filter q xs) ≡ true → any p xs ≡ true
-  any-of-filter p q xs e = any-mono (λ x. q x && p x) p xs (λ x. and-right (q x) (p x)) (sym (any-filter p q xs) ∙ e)
-
-  pub any-all : (p q : A → Bool) (xs : List A) → any p xs ≡ true → T (all (λ x. not (p x) || q x) xs) → any (λ x. p x && q x) xs ≡ true
-  any-all p q [] e t = e
-  any-all p q (x ∷ xs) e t =
-      let h = both (not (p x) || q x) (all (λ y. not (p y) || q y) xs) t in
-      cases (p x)
-      (λ k. rw (k, is-true (q x) (rw k at (h .0))))
-      (λ k. rw k (any-all p q xs (rw k at e) (h .1)))
-
   pub count-filter-le : (p q : A → Bool) (xs : List A) → count p (filter q xs) ≤ count p xs
   count-filter-le p q xs = omega (arith, count-split p q xs)
 
@@ -273,12 +234,6 @@ module _ {A : Type 0} where
       let h = both (p x) (all p xs) s in
       rw (is-true (p x) (h .0)) (all-append p xs ys (h .1) t)
 
-  pub all-map-same : (p : A → Bool) (f : A → A) (xs : List A) → ((x : A) → T (p x) → T (p (f x))) → T (all p xs) → T (all p (map f xs))
-  all-map-same p f [] h t = tt
-  all-map-same p f (x ∷ xs) h t =
-      let k = both (p x) (all p xs) t in
-      rw (is-true (p (f x)) (h x (k .0))) (all-map-same p f xs h (k .1))
-
   pub all-of-filter : (p q : A → Bool) (xs : List A) → T (all p xs) → T (all p (filter q xs))
   all-of-filter p q [] t = tt
   all-of-filter p q (x ∷ xs) t =
@@ -287,35 +242,8 @@ module _ {A : Type 0} where
       (λ e. rw (e, is-true (p x) (k .0)) (all-of-filter p q xs (k .1)))
       (λ e. rw e (all-of-filter p q xs (k .1)))
 
-  -- one at most of each kind: no two are the same
-  pub count-distinct : (same : A → A → Bool) (xs : List A) → ((x y : A) → same x y ≡ true → same y x ≡ true) → ((x : A) → same x x ≡ true) → ((k : A) → count (λ x. same x k) xs ≤ 1) → T (distinct same xs)
-  count-distinct same [] sy re h = tt
-  count-distinct same (x ∷ xs) sy re h =
-      let here : suc (count (λ y. same y x) xs) ≤ 1 = rw (re x) at (h x) in
-      let none : any (same x) xs ≡ false =
-      cases (any (same x) xs)
-      (λ e. absurd (some-count (λ y. same y x) xs (any-mono (same x) (λ y. same y x) xs (λ y. sy x y) e) (omega arith)))
-      (λ e. e) in
-      rw none (count-distinct same xs sy re (λ k. le-trans (fewer (same x k) (count (λ y. same y k) xs)) (h k)))
-    where
-      some-count : (p : A → Bool) (xs : List A) → any p xs ≡ true → count p xs ≤ 0 → ⊥
-      some-count p xs e z = false≢true (ap (any p) (sym (filter-none p xs z)) ∙ any-filter p p xs ∙ any-ext (λ x. p x && p x) p xs (λ x. twice (p x)) ∙ e)
-        where
-          twice : (b : Bool) → (b && b) ≡ b
-          twice true = refl
-          twice false = refl
-
-      fewer : (b : Bool) (n : ℕ) → n ≤ cond b (suc n) n
-      fewer true n = omega arith
-      fewer false n = omega arith
-
   pub length-split : (q : A → Bool) (xs : List A) → length (filter q xs) + length (filter (λ x. not (q x)) xs) ≡ length xs
   length-split q [] = refl
   length-split q (x ∷ xs) =
       let ih = length-split q xs in
       cases (q x) (λ e. rw e (omega arith)) (λ e. rw e (omega arith))
-
-module _ {A B : Type 0} where
-  pub distinct-map : (same : B → B → Bool) (f : A → B) (xs : List A) → distinct same (map f xs) ≡ distinct (λ x y. same (f x) (f y)) xs
-  distinct-map same f [] = refl
-  distinct-map same f (x ∷ xs) = λ i. not (any-map (same (f x)) f xs i) && distinct-map same f xs i

@@ -69,12 +69,6 @@ module _ (s : ℕ) (x : ℤ) (h : natAbs (toZ w64 s) + natAbs x < 2 ^ 63) where
   kept : toZ w64 (ofZ w64 x) ≡ x
   kept = toZ-ofZ {w = w64} (abs-fits x (omega arith))
 
-  pub add-fits : SFits w64 (toZ w64 s +ℤ toZ w64 (ofZ w64 x))
-  add-fits = rw kept (abs-fits (toZ w64 s +ℤ x) (omega (arith, abs-add (toZ w64 s) x)))
-
-  pub add-kept : toZ w64 (ofZ w64 (toZ w64 s +ℤ toZ w64 (ofZ w64 x))) ≡ toZ w64 s +ℤ x
-  add-kept = toZ-ofZ {w = w64} add-fits ∙ rw kept
-
 -- a sum of two signed numbers, as the code makes it
 module _ (a x : ℤ) (h : natAbs a + natAbs x < 2 ^ 63) where
   here : toZ w64 (ofZ w64 a) ≡ a

@@ -5,6 +5,7 @@ ghost use Prim.Native.Nat.{ℕ, _+_, _≤_, _<_};
 ghost use lib.ListN.{length, getD, drop};
 ghost use Rattle.lists.specs.First.{firstWhere, isByte};
 ghost use Rattle.lists.specs.Bytes.{sameBytes};
+ghost use Rattle.lists.specs.FirstSoFar.{firstAfter};
 
 // The place of the first byte b of s, or the length where there is none.
 pub fn find(s: &[u8], b: u8) -> usize
@@ -57,6 +58,19 @@ pub fn find_far(s: &[u8], b: u8) -> usize
     let far = pass_over(s, b, 32);
     let near = far + pass_over(&s[far..], b, 8);
     near + find(&s[near..], b)
+}
+
+// The first place at which a test holds, once place i of n is asked; n stands for none, and `first` was kept before.
+pub fn first_so_far(holds: bool, first: usize, n: usize, i: usize) -> usize
+    ensures { λ r. ⌜ r ≡ firstAfter holds first n i ⌝ }
+{
+    if first != n {
+        return first;
+    }
+    if holds {
+        return i;
+    }
+    n
 }
 
 pub fn wide(x: u8) -> u64

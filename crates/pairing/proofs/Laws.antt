@@ -17,13 +17,13 @@ use borrow.Author.Tests.{eq-eqb, ne-eqb, eqb-true}
 use lib.Dec.{eqb}
 use lib.ListN.{length, getD, set}
 use lib.Seq.{getD-set-same, getD-set-other}
+use Rattle.lists.proofs.Below.{first-is}
 use Rattle.entries.specs.declared.Entry.{Entry}
 use Rattle.entries.specs.Entries.{entryOf}
 use Rattle.soundness.specs.Meaning.{Names, Paired, Sound}
 use Rattle.soundness.specs.Sound.{isNamed, opposite}
 use Rattle.soundness.proofs.Meaning.{named-means, opposite-means}
 use Rattle.buckets.specs.Buckets.{firstPlace}
-use Rattle.buckets.proofs.Laws.{first-is}
 use Rattle.entry_keys.specs.Keys.{keyOf, Keyed, KeysDiffer, stateAt}
 use Rattle.entry_keys.proofs.Laws.{key-tells}
 use Rattle.pairing.specs.Pairing.{Cancels, Marked, WithMarks, PairedOff}

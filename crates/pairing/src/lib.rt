@@ -29,7 +29,7 @@ fn cancelled_place(
     ensures { λ r. ⌜ (used ≤ r → (j : ℕ) → Cancels (entriesOf (now (words .entry)) (now (amounts .entry)) used) i j → ⊥) ⌝ }
 {
     let named = entry_keys::key(cancel.sender, cancel.cancels);
-    let j = tree_places::place_of(keys, used, size, tree, named);
+    let j = buckets::place_of(keys, used, size, tree, named);
     if i <= j {
         return used;
     }

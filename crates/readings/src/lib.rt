@@ -9,7 +9,6 @@ ghost use Rattle.field_types.specs.Codes.{typeOfCode};
 ghost use Rattle.leading_bytes.specs.LeadingBytes.{AllRead};
 ghost use Rattle.readings.specs.Readings.{FieldTold, isNarrow};
 use calendar::Day;
-use fields::FieldType;
 use leading_bytes::Reading;
 use leading_bytes::Run;
 use leading_bytes::misses;
@@ -87,7 +86,7 @@ fn read_date_time(days: &[u64], s: &[u8]) -> Reading
     ensures { λ r. ⌜ FieldTold DateTime (now (s .entry)) r ⌝ }
 {
     let len = lists::find(s, 44);
-    if fields::fits(days, FieldType::DateTime, &s[..len]) {
+    if fields::is_date_time(days, &s[..len]) {
         return reads(len, 0);
     }
     misses()

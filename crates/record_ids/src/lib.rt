@@ -10,7 +10,7 @@ fn first_of_few(ids: &[u64]) -> usize
     ensures { λ r. ⌜ r ≡ firstRepeated (now (ids .entry)) ⌝ }
 {
     let mut tree = [0u16; 3072];
-    tree_places::first_repeated(ids, ids.len(), 1024, &mut tree)
+    buckets::first_repeated(ids, ids.len(), 1024, &mut tree)
 }
 
 // Test 9 of a file of at most 4,096 records.
@@ -19,7 +19,7 @@ fn first_of_many(ids: &[u64]) -> usize
     ensures { λ r. ⌜ r ≡ firstRepeated (now (ids .entry)) ⌝ }
 {
     let mut tree = [0u16; 16384];
-    tree_places::first_repeated(ids, ids.len(), 8192, &mut tree)
+    buckets::first_repeated(ids, ids.len(), 8192, &mut tree)
 }
 
 // Test 9: the first record whose ID an earlier one has, or their number.

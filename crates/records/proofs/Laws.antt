@@ -3,7 +3,7 @@
 --     field-at, field-none       field k is the part after k - 1 others; there is no field 0, and none past the count
 --     number-none, number-there    the start or the end of field k
 --     place-among                the place of field k of a record
---     record-placed, record-field    a record has the places of a line's fields
+--     record-placed                  a record has the places of a line's fields
 --     type-third                 the type of a line goes by its third place
 --     fields-known               a line of a known type has its parts as fields
 -- Assumes nothing.
@@ -81,9 +81,6 @@ place-among {s} {n} {bs} {es} {fields} p (suc k) = go (decLt k n)
 module _ {s line : List ℕ} {r : Record} (found : RecordFound s line r) where
   pub record-placed : FieldsPlaced s (r .count) (r .starts) (r .ends)
   record-placed = (found .few, subst (λ (fields : List (List ℕ)). Placed s (r .count) (r .starts) (r .ends) fields) (sym (found .placed .same)) (found .placed))
-
-  pub record-field : (k : ℕ) → fieldAmong (fieldsAt s (r .count) (r .starts) (r .ends)) k ≡ field k line
-  record-field k = ap (λ (fields : List (List ℕ)). fieldAmong fields k) (found .placed .same) ∙ among-is line k
 
 -- the third field, by its place
 pub type-third : {s : List ℕ} {n : ℕ} {bs es : List ℕ} (line : List ℕ) → Placed s n bs es (recordFields line)

@@ -15,8 +15,8 @@ use lib.ListN.{length, replicate, length-replicate}
 use Rattle.buckets.proofs.Laws.{zeros}
 use Rattle.lists.specs.Below.{firstBelow}
 use Rattle.lists.proofs.Below.{first-at-most}
-use Rattle.tree_places.specs.Trees.{repeatsAt}
-use Rattle.tree_places.proofs.Repeats.{one-repeats}
+use Rattle.buckets.specs.Trees.{repeatsAt}
+use Rattle.buckets.proofs.Repeats.{one-repeats}
 use Rattle.entry_keys.proofs.Laws.{key-repeats}
 use Rattle.live_periods.specs.LivePeriods.{LiveApart}
 use Rattle.entries.specs.declared.Entry.{Entry}

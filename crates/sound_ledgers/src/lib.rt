@@ -32,7 +32,7 @@ fn is_sound_in(
     if !copies.fit {
         return false;
     }
-    if tree_places::first_repeated(keys, used, size, tree) != used {
+    if buckets::first_repeated(keys, used, size, tree) != used {
         return false;
     }
     if !pairing::pair_off(words, amounts, used, keys, size, tree, states, marks) {

@@ -1,6 +1,6 @@
 // What Tables 4-2 to 4-10 say of each record type: how many fields it has, and which are marked Mandatory.
 ghost use mathlib.Core.Path.{_≡_};
-ghost use Rattle.tables.specs.Tables.{fieldCount, markRows, joined, isMandatory};
+ghost use Rattle.tables.specs.Tables.{fieldCount, markRows, joined};
 
 // Whether each field of each record type is marked Mandatory: 19 marks a type, as the longest table has.
 const MARKS: [bool; 171] = [
@@ -209,17 +209,4 @@ pub fn marks() -> [bool; 171]
     ensures { λ r. ⌜ r ≡ joined markRows ⌝ }
 {
     MARKS
-}
-
-// Whether the field after k others of a record of a type is marked Mandatory.
-pub fn is_mandatory(record_type: u64, k: usize) -> bool
-    ensures { λ r. ⌜ r ≡ isMandatory record_type k ⌝ }
-{
-    if 9 <= record_type {
-        return false;
-    }
-    if 19 <= k {
-        return false;
-    }
-    MARKS[record_type as usize * 19 + k]
 }

@@ -1,75 +1,27 @@
--- `buckets::index` meets its contract. The loop's invariant: the places passed are in their buckets, and their leaders in the column.
+-- `buckets::index` meets its contract. The loop's invariant: the first i places are in the tree, and their first places in the column.
 -- Assumes nothing.
-use Rattle.buckets.proofs.Laws.{indexed-none, indexed-more, led-more}
-use Rattle.buckets.specs.Buckets.{Led, Indexed}
-use lib.ListN.{length, length-set, getD, set}
+use Prim.Native.Nat.{_-_}
 use denote.Ref.{now}
-use Prim.Native.Nat.{ℕ, _+_, _-_, _≤_}
-use mathlib.Core.Path.{_≡_, refl, sym, subst}
+use Rattle.buckets.proofs.Trees.{first-no-later, Indexing, indexing-none, indexing-more, indexing-end}
 use borrow.Author.Needs.{needs}
 use native.Mathlib.Omega.{arith}
 use Rattle.buckets.proofs.index.Statement.{statement}
 use Rattle.buckets.proofs.index.Tie as tie
 
 abbrev Inv-loop : tie.InvT-loop
-Inv-loop values n heads₀ links₀ leaders₀ limit i₀ heads links leaders i =
-    (i ≤ n) × (length heads ≡ length heads₀) × (length links ≡ length links₀) × (length leaders ≡ length leaders₀) × Indexed values i heads links × Led values n leaders i
+Inv-loop values n size tree₀ leaders₀ i₀ tree leaders i = Indexing size values n tree₀ leaders₀ tree leaders i
 
 abbrev μ-loop : tie.MeasureT-loop
-μ-loop values n heads₀ links₀ leaders₀ limit i₀ heads links leaders i = n - i
+μ-loop values n size tree₀ leaders₀ i₀ tree leaders i = n - i
 
 loop-holds : tie.Need-loop-holds Inv-loop μ-loop
-loop-holds c =
-    let s = c .before .before .before .before in
-    (omega arith, refl, refl, refl, indexed-none (now (s .args .values)) (now (s .args .heads)) (now (s .args .links)) (s .pre .0 .3) (s .pre .0 .4) (s .pre .1), λ q h. absurd (omega arith))
+loop-holds c = indexing-none _ _ _ _ (c .before .before .before .pre .1) _
 
-mul-value : tie.Need-mul-value Inv-loop μ-loop
-mul-value c = search needs
-
-shared-slice-read-value : tie.Need-shared-slice-read-value Inv-loop μ-loop
-shared-slice-read-value c = search needs
-
-bucket-requires : tie.Need-bucket-requires Inv-loop μ-loop
-bucket-requires c κs = search needs
-
-mul-latest : tie.Need-mul-latest Inv-loop μ-loop
-mul-latest c = search needs
-
-slice-read-latest : tie.Need-slice-read-latest Inv-loop μ-loop
-slice-read-latest c = search needs
-
-walk-requires : tie.Need-walk-requires Inv-loop μ-loop
-walk-requires c κs = c .before .before .before .before .before .before .loop .inv .4
-
-same-length : tie.Need-same-length Inv-loop μ-loop
-same-length c = search needs
-
-same-length-2 : tie.Need-same-length-2 Inv-loop μ-loop
-same-length-2 c = search needs
-
-same-length-3 : tie.Need-same-length-3 Inv-loop μ-loop
-same-length-3 c = search needs
-
-returns : tie.Need-returns Inv-loop μ-loop
-returns c = λ e. let z : _≡_ {A = ℕ} 0 1 = cc in absurd (omega arith)
-
-held-after-requires : tie.Need-held-after-requires Inv-loop μ-loop
-held-after-requires c κs = search needs
-
-mul-heads : tie.Need-mul-heads Inv-loop μ-loop
-mul-heads c = search needs
-
-slice-write-heads : tie.Need-slice-write-heads Inv-loop μ-loop
-slice-write-heads c = search needs
-
-mul-links : tie.Need-mul-links Inv-loop μ-loop
-mul-links c = search needs
-
-slice-write-links : tie.Need-slice-write-links Inv-loop μ-loop
-slice-write-links c = search needs
+put-requires : tie.Need-put-requires Inv-loop μ-loop
+put-requires c κs = let p = c .before .before .loop in let pre = c .before .before .before .before .before .before .pre .0 in ((omega arith, pre .1, pre .2, omega (arith, pre, p .inv .grown .long), omega arith), p .inv .grown .indexed)
 
 cast-leaders : tie.Need-cast-leaders Inv-loop μ-loop
-cast-leaders c = search needs
+cast-leaders c = omega (arith, first-no-later (now (c .before .before .before .before .before .before .before .before .before .args .values)) (c .before .before .before .before .before .loop .i) (c .before .before .put .ensures .1))
 
 mul-leaders : tie.Need-mul-leaders Inv-loop μ-loop
 mul-leaders c = search needs
@@ -85,37 +37,18 @@ loop-less c = search needs
 
 loop-again : tie.Need-loop-again Inv-loop μ-loop
 loop-again c =
-    let p = c .before .before .before .before .before .before .before .before .before .loop in
-    let s = c .before .before .before .before .before .before .before .before .before .before .before .before .before .before in
-    let values = now (s .args .values) in
-    let b = c .before .before .before .before .before .before .bucket in
-    let leader = c .before .before .walk .result in
-    let first = c .before .before .walk .ensures .0 (omega (arith, c .before .if1 .left)) in
-    let less = c .before .before .before .before .before .before .before .before .loop-test .taken in
-    let more = indexed-more values (p .heads) (p .links) (p .i) (b .result) leader (p .inv .4) (b .ensures .0) (b .ensures .1) first (omega (arith, s .pre .0, less)) (omega (arith, s .pre .0, less, p .inv .2)) in (
-      omega arith,
-      simp length-set (p .inv .1),
-      simp length-set (p .inv .2),
-      simp length-set (p .inv .3),
-      subst (λ (h : ℕ). Indexed values (p .i + 1) (set (p .heads) (b .result) h) (set (p .links) (p .i) (getD (p .heads) (b .result) 0))) (sym (c .held-after .ensures)) more,
-      led-more values (s .args .n) (p .i) less (p .leaders) leader (omega (arith, p .inv .3)) first (p .inv .5),
-    )
+    let s = c .before .before .before .before .before .before .before .before .before in
+    let put = c .before .before .put in
+    indexing-more _ (now (s .args .values)) _ _ (c .before .before .before .before .loop-test .taken) _ (put .kept .1 .1 .1 .0) (put .ensures) (s .pre .0 .5) (c .before .before .before .before .before .loop .inv)
 
-same-length-4 : tie.Need-same-length-4 Inv-loop μ-loop
-same-length-4 c = search needs
+same-length : tie.Need-same-length Inv-loop μ-loop
+same-length c = search needs
 
-same-length-5 : tie.Need-same-length-5 Inv-loop μ-loop
-same-length-5 c = search needs
+same-length-2 : tie.Need-same-length-2 Inv-loop μ-loop
+same-length-2 c = search needs
 
-same-length-6 : tie.Need-same-length-6 Inv-loop μ-loop
-same-length-6 c = search needs
-
-returns-2 : tie.Need-returns-2 Inv-loop μ-loop
-returns-2 c =
-    let p = c .before .loop in
-    let s = c .before .before .before .before .before .before in
-    let z : p .i ≡ s .args .n = omega arith in
-    λ e. subst (λ (m : ℕ). Indexed (now (s .args .values)) m (p .heads) (p .links) × Led (now (s .args .values)) (s .args .n) (p .leaders) m) z (p .inv .4, p .inv .5)
+returns : tie.Need-returns Inv-loop μ-loop
+returns c = indexing-end _ _ _ _ (omega (arith, c .loop-test .left)) (c .before .loop .inv)
 
 pub index-spec : {M : Type 1} → statement M
 index-spec =
@@ -124,28 +57,13 @@ index-spec =
     Inv-loop
     μ-loop
     loop-holds
-    mul-value
-    shared-slice-read-value
-    bucket-requires
-    mul-latest
-    slice-read-latest
-    walk-requires
-    same-length
-    same-length-2
-    same-length-3
-    returns
-    held-after-requires
-    mul-heads
-    slice-write-heads
-    mul-links
-    slice-write-links
+    put-requires
     cast-leaders
     mul-leaders
     slice-write-leaders
     add-i
     loop-less
     loop-again
-    same-length-4
-    same-length-5
-    same-length-6
-    returns-2)
+    same-length
+    same-length-2
+    returns)

@@ -1,18 +1,21 @@
--- `buckets::place_of` meets its contract: a walk along the chain of the value's bucket, with a step for each place, comes to its end.
+-- `buckets::place_of` meets its contract: a search that ends at an empty slot says that no place has the value.
 -- Assumes nothing.
+use mathlib.Core.Path.{sym}
 use borrow.Author.Needs.{needs}
-use native.Mathlib.Omega.{arith}
 use Rattle.buckets.proofs.place_of.Statement.{statement}
 use Rattle.buckets.proofs.place_of.Tie as tie
 
-add-walk : tie.Need-add-walk
-add-walk c = search needs
-
-walk-requires : tie.Need-walk-requires
-walk-requires c κs = search needs
+search-requires : tie.Need-search-requires
+search-requires c κs = search needs
 
 returns : tie.Need-returns
-returns c = c .walk .ensures .0 (c .walk .ensures .1 (omega arith))
+returns c = sym (c .before .search .ensures .none (c .if1 .taken))
+
+sub-result : tie.Need-sub-result
+sub-result c = search needs
+
+returns-2 : tie.Need-returns-2
+returns-2 c = sym (c .before .search .ensures .first (c .if1 .left))
 
 pub place-of-spec : {M : Type 1} → statement M
-place-of-spec = tie.close (tie.spec add-walk walk-requires returns)
+place-of-spec = tie.close (tie.spec search-requires returns sub-result returns-2)

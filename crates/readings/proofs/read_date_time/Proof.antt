@@ -23,11 +23,11 @@ find-requires c κs = search needs
 inside : (c : tie.After-find) → c .find .result ≤ length (now (c .before .before .before .args .s))
 inside c = omega (arith, first-le (isByte 44) (now (c .before .before .before .args .s)), c .find .ensures)
 
-slice-aggregate-fits : tie.Need-slice-aggregate-fits
-slice-aggregate-fits c = sym (length-take-le (c .before .find .result) (now (c .before .before .before .before .args .s)) (inside (c .before)))
+slice-aggregate-is-date-time : tie.Need-slice-aggregate-is-date-time
+slice-aggregate-is-date-time c = sym (length-take-le (c .before .find .result) (now (c .before .before .before .before .args .s)) (inside (c .before)))
 
-fits-requires : tie.Need-fits-requires
-fits-requires c κs = search needs
+is-date-time-requires : tie.Need-is-date-time-requires
+is-date-time-requires c κs = search needs
 
 reads-requires : tie.Need-reads-requires
 reads-requires c κs = search needs
@@ -38,7 +38,7 @@ returns c =
     let p = c .before .before .before .before in (
       λ e.
           field-read DateTime (now (p .before .before .before .args .s)) (c .reads .result) (p .find .result) 0 (p .find .ensures)
-          (sym (c .before .before .fits2 .ensures) ∙ c .before .if1 .taken) tt (c .reads .ensures .1) (c .reads .ensures .2),
+          (sym (c .before .before .is-date-time .ensures) ∙ c .before .if1 .taken) tt (c .reads .ensures .1) (c .reads .ensures .2),
       λ e. let z : _≡_ {A = ℕ} 0 1 = cc in absurd (omega arith),
     )
 
@@ -50,7 +50,7 @@ returns-2 c =
     let p = c .before .before .before .before in
     let s = now (p .before .before .before .args .s) in (
       λ e. let z : _≡_ {A = ℕ} 0 1 = cc in absurd (omega arith),
-      λ e. subst (λ (k : ℕ). fitsType DateTime (take k s) ≡ false) (p .find .ensures) (sym (c .before .before .fits2 .ensures) ∙ c .before .if1 .left),
+      λ e. subst (λ (k : ℕ). fitsType DateTime (take k s) ≡ false) (p .find .ensures) (sym (c .before .before .is-date-time .ensures) ∙ c .before .if1 .left),
     )
 
 pub read-date-time-spec : {M : Type 1} → statement M
@@ -58,8 +58,8 @@ read-date-time-spec =
     tie.close
     (tie.spec
     find-requires
-    slice-aggregate-fits
-    fits-requires
+    slice-aggregate-is-date-time
+    is-date-time-requires
     reads-requires
     returns
     misses-requires

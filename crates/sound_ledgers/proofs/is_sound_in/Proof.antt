@@ -4,7 +4,7 @@ use mathlib.Core.Path.{_≡_, sym, _∙_, subst}
 use Prim.Native.Nat.{ℕ, _≤_, _<_}
 use denote.Ref.{now}
 use borrow.Author.Tests.{not-true, not-false}
-use Rattle.tree_places.proofs.Repeats.{all-different}
+use Rattle.buckets.proofs.Repeats.{all-different}
 use Rattle.entries.specs.Words.{entriesOf}
 use Rattle.entries.proofs.Words.{length-entries}
 use Rattle.entry_keys.proofs.Laws.{keys-differ}

@@ -1,14 +1,14 @@
--- `tree_places::first_repeated` meets its contract. The loop's invariant: the first i places are in the tree, and none of them repeats an earlier value.
+-- `buckets::first_repeated` meets its contract. The loop's invariant: the first i places are in the tree, and none of them repeats an earlier value.
 -- Assumes nothing.
 use denote.Ref.{now}
 use mathlib.Core.Path.{_≡_, sym, subst}
 use Prim.Native.Nat.{ℕ, _-_}
-use Rattle.tree_places.specs.Trees.{Indexed}
-use Rattle.tree_places.proofs.Laws.{Unrepeated, unrepeated-none, unrepeated-more, unrepeated-here, unrepeated-end}
+use Rattle.buckets.specs.Trees.{Indexed}
+use Rattle.buckets.proofs.Trees.{Unrepeated, unrepeated-none, unrepeated-more, unrepeated-here, unrepeated-end}
 use borrow.Author.Needs.{needs}
 use native.Mathlib.Omega.{arith}
-use Rattle.tree_places.proofs.first_repeated.Statement.{statement}
-use Rattle.tree_places.proofs.first_repeated.Tie as tie
+use Rattle.buckets.proofs.first_repeated.Statement.{statement}
+use Rattle.buckets.proofs.first_repeated.Tie as tie
 
 abbrev Inv-loop : tie.InvT-loop
 Inv-loop values n size tree₀ i₀ tree i = Unrepeated size values n tree₀ tree i

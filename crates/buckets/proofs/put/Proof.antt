@@ -1,11 +1,11 @@
--- `tree_places::put` meets its contract: a place whose value is not there is put where its search ended; else the tree stays.
+-- `buckets::put` meets its contract: a place whose value is not there is put where its search ended; else the tree stays.
 -- Assumes nothing.
 use mathlib.Core.Path.{sym}
-use Rattle.tree_places.proofs.Laws.{keep-place, put-place}
+use Rattle.buckets.proofs.Trees.{keep-place, put-place}
 use borrow.Author.Needs.{needs}
 use native.Mathlib.Omega.{arith}
-use Rattle.tree_places.proofs.put.Statement.{statement}
-use Rattle.tree_places.proofs.put.Tie as tie
+use Rattle.buckets.proofs.put.Statement.{statement}
+use Rattle.buckets.proofs.put.Tie as tie
 
 mul-search : tie.Need-mul-search
 mul-search c = search needs

@@ -1,12 +1,12 @@
--- `tree_places::search` meets its contract. The loop's invariant: the search has passed slots of other values; each step goes to a later place.
+-- `buckets::search` meets its contract. The loop's invariant: the search has passed slots of other values; each step goes to a later place.
 -- Assumes nothing.
 use Prim.Native.Nat.{_+_, _-_, _*_, _%_}
 use mathlib.Core.Path.{_≡_, refl}
 use borrow.Author.Needs.{needs}
 use native.Mathlib.Omega.{arith}
-use Rattle.tree_places.proofs.Laws.{Walked, distance, walk-start, walk-more, walk-closer, walk-found, walk-end}
-use Rattle.tree_places.proofs.search.Statement.{statement}
-use Rattle.tree_places.proofs.search.Tie as tie
+use Rattle.buckets.proofs.Trees.{Walked, distance, walk-start, walk-more, walk-closer, walk-found, walk-end}
+use Rattle.buckets.proofs.search.Statement.{statement}
+use Rattle.buckets.proofs.search.Tie as tie
 
 abbrev Inv-loop : tie.InvT-loop
 Inv-loop values m size tree value slot₀ held₀ rest₀ slot held rest = Walked size values m tree value slot held rest
