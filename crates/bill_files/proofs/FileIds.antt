@@ -1,4 +1,6 @@
 -- The Record IDs of the files' FHs can be told from the files' TH and OC alone.
+--     bill-of-file      a TH or OC carries its file's sender and the Record ID of its FH
+--     some-bill         a file that passes has a TH or OC: by test 4 the third line is one
 -- Assumes nothing.
 use mathlib.Core.Path.{_≡_, refl, sym, ap, _∙_, subst}
 use mathlib.Core.Logic.{_⊎_, inl, inr, ⊎-elim}
@@ -17,6 +19,11 @@ use Rattle.format.specs.Format.{lineAt}
 use Rattle.bill_files.specs.Accepted.{Bill, isPeriod, isBill, billIn, billsIn, billFile}
 use Rattle.bill_files.specs.Passing.{Passing}
 use Rattle.bill_files.proofs.Accepted.{every-bill}
+
+pub bill-of-file : (lines : List (List ℕ)) (other : Bill) (k : ℕ) → k < length (billsIn lines)
+    → (getD (billsIn lines) k other .sender ≡ billFile lines .sender) × (getD (billsIn lines) k other .fileId ≡ billFile lines .recordId)
+unfolding billIn billFile
+bill-of-file lines = every-bill (λ b. (b .sender ≡ billFile lines .sender) × (b .fileId ≡ billFile lines .recordId)) lines (λ i h e. (refl, refl))
 
 -- ---- test 4: "FH: SH. SH: TH, OC."
 in-row : (previous t : ℕ) → mayFollow previous t ≡ true → getD (getD followTable previous []) t false ≡ true
@@ -51,6 +58,19 @@ after-SH (suc (suc (suc (suc (suc (suc (suc zero))))))) e = inr refl
 after-SH (suc (suc (suc (suc (suc (suc (suc (suc zero)))))))) e = absurd (false≢true e)
 after-SH (suc (suc (suc (suc (suc (suc (suc (suc (suc n))))))))) e = absurd (false≢true e)
 
+-- a line that is picked
+some-picked : (lines : List (List ℕ)) (i : ℕ) → i < length lines → isBill (lineAt lines i) ≡ true → 0 < length (filter isBill lines)
+some-picked [] i h e = absurd (omega arith)
+some-picked (line ∷ lines) zero h e = ap-less (sym (ap (λ (b : Bool). length (cond b (line ∷ filter isBill lines) (filter isBill lines))) e))
+  where
+    ap-less : {n : ℕ} → suc (length (filter isBill lines)) ≡ n → 0 < n
+    ap-less q = omega arith
+some-picked (line ∷ lines) (suc i) h e = go (isBill line) (some-picked lines i (omega arith) e)
+  where
+    go : (b : Bool) → 0 < length (filter isBill lines) → 0 < length (cond b (line ∷ filter isBill lines) (filter isBill lines))
+    go true k = omega arith
+    go false k = k
+
 module _ {retailer : ℕ} {distributors : List ℕ} {lines : List (List ℕ)} (p : Passing retailer distributors lines) where
   -- a line that isn't FT isn't the last
   goes-on : (i t : ℕ) → i < length lines → typeIn (lineAt lines i) ≡ t → (t ≡ FT → ⊥) → i + 1 < length lines
@@ -69,3 +89,17 @@ module _ {retailer : ℕ} {distributors : List ℕ} {lines : List (List ℕ)} (p
       let sh = after-FH (typeIn (lineAt lines 1)) (in-row FH (typeIn (lineAt lines 1)) (subst (λ (t : ℕ). mayFollow t (typeIn (lineAt lines 1)) ≡ true) first (p .ordered .follows 0 second))) in
       let more = goes-on 1 SH second sh (λ e. omega (arith, e)) in
       (more, after-SH (typeIn (lineAt lines 2)) (in-row SH (typeIn (lineAt lines 2)) (subst (λ (t : ℕ). mayFollow t (typeIn (lineAt lines 2)) ≡ true) sh (p .ordered .follows 1 more))))
+
+  pub some-bill : 0 < length (billsIn lines)
+  unfolding billsIn
+  some-bill = omega (arith, length-map (filter isBill lines) (billIn (lineAt lines 0)), some-picked lines 2 (third .0) (⊎-elim period charge (third .1)))
+    where
+      period : typeIn (lineAt lines 2) ≡ TH → isBill (lineAt lines 2) ≡ true
+      period e = ap (λ (b : Bool). b || eqb (typeIn (lineAt lines 2)) OC) (eq-eqb (typeIn (lineAt lines 2)) TH e)
+
+      either : (a b : Bool) → b ≡ true → (a || b) ≡ true
+      either true b e = refl
+      either false b e = e
+
+      charge : typeIn (lineAt lines 2) ≡ OC → isBill (lineAt lines 2) ≡ true
+      charge e = either (isPeriod (lineAt lines 2)) (eqb (typeIn (lineAt lines 2)) OC) (eq-eqb (typeIn (lineAt lines 2)) OC e)

@@ -11,7 +11,6 @@ use mathlib.Core.Path.{_≡_, refl, _∙_, ap}
 use mathlib.Core.List.{List, [], _∷_, map}
 use Prim.Native.Nat.{ℕ, zero, suc, _+_, _^_, _≤_, _<_}
 use native.Mathlib.Nat.{le-of-suc-le-suc}
-use native.Mathlib.Numerals.{add-one}
 use native.Mathlib.Omega.{arith}
 use lib.Dec.{lit<, lit≤}
 use lib.IntN.{ℤ, pos, natAbs}
@@ -20,8 +19,6 @@ use Rattle.digits.specs.declared.Number.{Number}
 use Rattle.digits.specs.declared.Number.the-variants.{Value, Other}
 use Rattle.digits.specs.Digits.{digitsOf}
 use Rattle.digits.proofs.Laws.{ten-room, digits-say, digits-bound}
-use Rattle.calendar.specs.declared.Day.{Day}
-use Rattle.calendar.specs.declared.Day.the-variants.{At, NotADate}
 use Rattle.amounts.specs.Amounts.{amountOf, units}
 use Rattle.amounts.proofs.Laws.{units-bound}
 use Rattle.columns.specs.Columns.{heldNumber, heldDay, fieldIn, charge, usage, numberIn, chargeIn, usageIn, columnAt, ColumnsRead}

@@ -4,8 +4,6 @@ use Rattle.records.proofs.Laws.{place-among}
 use Rattle.records.specs.Records.{fieldAmong, fieldsAt}
 use Rattle.text.specs.Text.{At}
 use denote.Ref.{now}
-use Prim.Native.Nat.{ℕ}
-use mathlib.Core.Path.{_≡_, sym, subst}
 use borrow.Author.Needs.{needs}
 use Rattle.records.proofs.field_among.Statement.{statement}
 use Rattle.records.proofs.field_among.Tie as tie
