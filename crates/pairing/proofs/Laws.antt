@@ -1,19 +1,18 @@
 -- The marks of cancels, with one entry more, and that they make cancels and cancelled entries pair off.
---     not-both, both-hold                      two numbers that are tested at once
 --     cancels, cancels-named, cancels-opposite what the tests of a cancel and an entry show
 --     key-place, named-place                   the entry that a cancel names is the first that has the key named
 --     unpaired-cancel, marked-twice, unmarked  what a sound ledger has not
 --     marked-none, marked-more, marked-kept    the marks of cancels: at the start; one more; the same
 --     paired-off                               where each cancelled entry has a mark, cancels and cancelled entries pair off
 -- Assumes nothing.
-use mathlib.Core.Path.{_≡_, refl, sym, _∙_, ap, subst}
+use mathlib.Core.Path.{_≡_, sym, _∙_, ap, subst}
 use mathlib.Core.List.{List}
-use mathlib.Core.Bool.{Bool, true, false, _&&_, true≢false}
+use mathlib.Core.Bool.{true}
 use Prim.Native.Nat.{ℕ, _+_, _<_}
 use native.Mathlib.Omega.{arith}
 use native.Mathlib.Decide.{ℕ-discrete, decLt}
 use borrow.Author.Count.{below-none, below-more}
-use borrow.Author.Tests.{eq-eqb, ne-eqb, eqb-true}
+use borrow.Author.Tests.{eq-eqb, ne-eqb}
 use lib.Dec.{eqb}
 use lib.ListN.{length, getD, set}
 use lib.Seq.{getD-set-same, getD-set-other}
@@ -27,17 +26,6 @@ use Rattle.buckets.specs.Buckets.{firstPlace}
 use Rattle.entry_keys.specs.Keys.{keyOf, Keyed, KeysDiffer, stateAt}
 use Rattle.entry_keys.proofs.Laws.{key-tells}
 use Rattle.pairing.specs.Pairing.{Cancels, Marked, WithMarks, PairedOff}
-
-pub not-both : (a b x y : ℕ) → (eqb a x && eqb b y) ≡ false → a ≡ x → b ≡ y → ⊥
-not-both a b x y amiss p q = let both : (eqb a x && eqb b y) ≡ true = simp (eq-eqb a x p, eq-eqb b y q) in true≢false (sym both ∙ amiss)
-
-pub both-hold : (a b x y : ℕ) → (eqb a x && eqb b y) ≡ true → (a ≡ x) × (b ≡ y)
-both-hold a b x y = go (eqb a x) (eqb b y) refl refl
-  where
-    go : (s t : Bool) → eqb a x ≡ s → eqb b y ≡ t → (s && t) ≡ true → (a ≡ x) × (b ≡ y)
-    go true true p q _ = (eqb-true a x p, eqb-true b y q)
-    go true false p q z = let w : _≡_ {A = ℕ} 0 1 = cc in absurd (omega arith)
-    go false t p q z = let w : _≡_ {A = ℕ} 0 1 = cc in absurd (omega arith)
 
 module _ (es : List Entry) where
   pub cancels : (i j : ℕ) (c e : Entry) → c ≡ entryOf es i → e ≡ entryOf es j → j < i → c .state ≡ 4 → isNamed c e ≡ true → opposite c e ≡ true → Cancels es i j

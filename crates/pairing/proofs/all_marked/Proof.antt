@@ -5,7 +5,7 @@ use Prim.Native.Nat.{ℕ, _-_, _≤_}
 use denote.Ref.{now}
 use lib.ListN.{getD}
 use Rattle.pairing.specs.Pairing.{WithMarks}
-use Rattle.pairing.proofs.Laws.{not-both, both-hold}
+use Rattle.soundness.proofs.Tests.{equal, both, fails}
 use borrow.Author.Count.{below-none, below-more}
 use borrow.Author.Needs.{needs}
 use native.Mathlib.Omega.{arith}
@@ -34,8 +34,8 @@ returns : tie.Need-returns Inv-loop μ-loop
 returns c =
     let p = c .before .before .before .before .loop in
     let a = c .before .before .before .before .before .args in
-    let both = both-hold (getD (now (a .states)) (p .j) 0) (getD (now (a .marks)) (p .j) 0) 3 0 (c .if1 .taken) in
-    (λ e. let w : _≡_ {A = ℕ} 0 1 = cc in absurd (omega arith), λ _ all. all (p .j) (c .before .before .before .loop-test .taken) (both .0) (both .1))
+    let missing = both (equal (getD (now (a .states)) (p .j) 0) 3) (equal (getD (now (a .marks)) (p .j) 0) 0) .0 (c .if1 .taken) in
+    (λ e. let w : _≡_ {A = ℕ} 0 1 = cc in absurd (omega arith), λ _ all. all (p .j) (c .before .before .before .loop-test .taken) (missing .0) (missing .1))
 
 add-j : tie.Need-add-j Inv-loop μ-loop
 add-j c = search needs
@@ -49,7 +49,7 @@ loop-again c =
     let a = c .before .before .before .before .before .args in (
       omega arith,
       below-more (λ k. getD (now (a .states)) k 0 ≡ 3 → getD (now (a .marks)) k 0 ≡ 0 → ⊥) (p .j) (p .inv .1)
-          (not-both (getD (now (a .states)) (p .j) 0) (getD (now (a .marks)) (p .j) 0) 3 0 (c .if1 .left)),
+          (λ cancelled unmarked. fails (both (equal (getD (now (a .states)) (p .j) 0) 3) (equal (getD (now (a .marks)) (p .j) 0) 0)) .0 (c .if1 .left) (cancelled, unmarked)),
     )
 
 returns-2 : tie.Need-returns-2 Inv-loop μ-loop
