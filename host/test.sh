@@ -16,7 +16,7 @@ same() {
 host/ledger.sh "${memcheck[@]}" target/host/ledger > "$work/ledger.valgrind" &
 ledger=$!
 
-for file in crates/desk_examples/data/*.csv; do
+for file in crates/examples/data/*.csv; do
   cmp "$file" "samples/desk-$(basename "$file")"
 done
 

@@ -1,15 +1,15 @@
-"""The proofs of the functions of crate lent_booking that book into a lent run: the lemmas of the covered callees, the walk of the function with lent words,
+"""The proofs of the functions of crate lent_ledger that book into a lent run: the lemmas of the covered callees, the walk of the function with lent words,
 the lemma of that function as a callee, and the walk of the function of crate intake that a host calls."""
 
 from walk_text import *
 
-CRATE = "lent_booking"
+CRATE = "lent_ledger"
 HERE = f"Rattle.{CRATE}.proofs."
 SPECS = f"""use Rattle.booking.specs.Booking.{{Input, inputOf, bookResult, runAfter}}
 use Rattle.{CRATE}.specs.declared.BookReply.{{BookReply}}
-use Rattle.{CRATE}.specs.Replies.{{bookReply, HostBooked, writtenTo, writtenFrom}}
+use Rattle.{CRATE}.specs.BookReplies.{{bookReply, HostBooked, writtenTo, writtenFrom}}
 use Rattle.{CRATE}.specs.Told.{{Told}}
-use Rattle.text.specs.Text.{{linesOf}}
+use Rattle.records.specs.Text.{{linesOf}}
 use {HERE}BookReply as R
 """
 # the same, from the crate of the function that a host calls
@@ -143,7 +143,7 @@ use denote.Struct.Laws as LL
 use Rattle.entries.specs.Words.{{RoomFor, entriesOf}}
 use Rattle.runs.proofs.Lent.{{cites, words, shared, shares-got, shares-says, shares}}
 use Rattle.{CRATE}.specs.declared.BookReply.{{BookReply}}
-use Rattle.{CRATE}.specs.Replies.{{writtenTo, writtenFrom}}
+use Rattle.{CRATE}.specs.BookReplies.{{writtenTo, writtenFrom}}
 use {HERE}BookReply as R
 use {HERE}BookReply.Laws as R′
 {symbols(CRATE, 'written_to')}{symbols(CRATE, 'written_from')}{contract('written_to')}{contract('written_from')}
@@ -351,7 +351,7 @@ def told_called():
 -- Assumes `Given`, that the table of calls is monotone under a frame, and that its entry meets the callee's contract.
 {CALLED_U8.replace('{_≡_, refl, subst}', '{_≡_, refl, ap}').replace('{owned, facts, heard, nothing}', '{only, owned, facts, heard, nothing}').replace('{SProp, ent, sep, id⊢, exE, snd∗}', '{SProp, ent, sep, emp, id⊢, comm∗, exE, snd∗}').replace('use1, split,', 'use1, use2, split,').replace('frame, await,', 'frame, suffices, await,')}use denote.RattleType.{{owns}}
 use Rattle.runs.proofs.Lent.{{cites-by}}
-use Rattle.text.specs.Text.{{linesOf}}
+use Rattle.records.specs.Text.{{linesOf}}
 use Rattle.{CRATE}.specs.Told.{{Told}}
 {symbols(CRATE, 'places_told')}{contract('places_told')}
 module _ {GIVEN} (W : Given 𝓤 H A) {RUNNING} (C : Calls 𝓤 H) (fm : FmC 𝓤 H (W .laws) C)
@@ -476,7 +476,7 @@ use Rattle.runs.proofs.store.Symbol as store-def
 use Rattle.runs.proofs.store.Symbol.{{name as #store}}
 use Rattle.runs.proofs.store.Met as store-thm
 {SPECS}use {HERE}BookReply.Laws as R′
-use {HERE}Laws.{{load-room, to-small, from-small, added-fits, may-read, may-store, wrapped}}
+use {HERE}BookLaws.{{load-room, to-small, from-small, added-fits, may-read, may-store, wrapped}}
 use {HERE}BookReplyCalled.{{BookReplyContract, book-reply-got, book-reply-called}}
 use {HERE}WrittenCalled.{{WrittenToContract, WrittenFromContract, written-to-got, written-to-called, written-from-got, written-from-called}}
 {walk_symbols(HERE[:-1], 'book_reply')}{walk_symbols(HERE[:-1], 'written_to')}{walk_symbols(HERE[:-1], 'written_from')}{this_symbols(CRATE, 'book_in')}

@@ -15,7 +15,7 @@ ROOT = os.path.join(os.path.dirname(os.path.abspath(__file__)), "..")
 LIST = os.path.join(ROOT, "docs", "READING.md")
 
 # The crates whose functions a host calls, and the records that say what is promised.
-EXPORTED = ["intake", "packed_answers"]
+EXPORTED = ["intake"]
 ROOTS = [
     ("bill_files", "Passing"),
     ("bill_files", "Accepted"),

@@ -1,5 +1,5 @@
 """What the proofs of functions over a lent run have in common: the text of their `use` lines, of the locals and of the places where they stand in a walk's
-context. readers.py and booking.py make the proofs of crates lent_ledger, lent_booking and intake with it, and walks.py writes them."""
+context. readers.py and booking.py make the proofs of crates lent_ledger and intake with it, and walks.py writes them."""
 
 # how many entries the words have room for: of Totals and Find, and of Book
 SIZES = (1024, 8192)

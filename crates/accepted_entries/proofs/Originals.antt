@@ -17,7 +17,7 @@ use Rattle.lists.specs.Selections.{filter, count}
 use Rattle.bill_files.specs.Accepted.{Bill}
 use Rattle.entries.specs.declared.Entry.{Entry}
 use Rattle.entries.specs.Entries.{inState, isHeld, isPeriod}
-use Rattle.periods_by_site.specs.Sited.{overlapsEntry}
+use Rattle.used_entries.specs.Sited.{overlapsEntry}
 use Rattle.booking.specs.Booking.{entry, overlaps, firstOverlap, stateOf, original, bookOriginals}
 use Rattle.booking.specs.Acceptable.{billAt}
 use Rattle.booking.proofs.Added.{originalEntries, originals-parts}

@@ -16,9 +16,9 @@ use Rattle.entries.specs.declared.Entry.{Entry}
 use Rattle.entries.specs.Entries.{blank, entryOf}
 use Rattle.entries.specs.Words.{entryAt, entriesOf}
 use Rattle.entries.proofs.Words.{length-entries, entry-of}
-use Rattle.chains.specs.Chains.{ChainRoom, Pushed}
-use Rattle.chains.proofs.Laws.{chained-same}
-use Rattle.periods_by_site.specs.Sited.{siteIn, BySite}
+use Rattle.buckets.specs.Chains.{ChainRoom, Pushed}
+use Rattle.buckets.proofs.Chains.{chained-same}
+use Rattle.used_entries.specs.Sited.{siteIn, BySite}
 
 pub one-at-most : (t : Bool) → cond t 1 0 ≤ 1
 one-at-most true = le-refl 1

@@ -9,7 +9,7 @@ use lib.ListN.{length, set, take, drop}
 use Rattle.lists.specs.First.{firstWhere}
 use Rattle.entries.specs.declared.Entry.{Entry}
 use Rattle.entries.specs.Entries.{entryOf, isPeriod, inState}
-use Rattle.periods_by_site.specs.Sited.{overlapsEntry}
+use Rattle.used_entries.specs.Sited.{overlapsEntry}
 
 -- ---- a run of entries
 -- the first r places are l, and those past them are as they were

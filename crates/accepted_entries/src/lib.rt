@@ -7,8 +7,8 @@ ghost use lib.ListN.{length, getD, set, take, drop};
 ghost use Rattle.lists.specs.Selections.{count};
 ghost use Rattle.entries.specs.Entries.{entryOf, inState, isHeld};
 ghost use Rattle.entries.specs.Words.{RoomFor, entriesOf};
-ghost use Rattle.chains.specs.Chains.{ChainRoom};
-ghost use Rattle.periods_by_site.specs.Sited.{BySite};
+ghost use Rattle.buckets.specs.Chains.{ChainRoom};
+ghost use Rattle.used_entries.specs.Sited.{BySite};
 ghost use Rattle.booking.specs.Booking.{cancels, originals, fileEntry, bookCancels, bookOriginals, booked};
 ghost use Rattle.file_bills.specs.Bills.{fileIn, Source, isCancel};
 ghost use Rattle.ledger_tests.specs.Tests.{Named};
@@ -110,7 +110,7 @@ fn state_of(
     if e.kind != 2 {
         return 1;
     }
-    if periods_by_site::first_overlap(words, amounts, used, heads, links, e) < used {
+    if used_entries::first_overlap(words, amounts, used, heads, links, e) < used {
         return 2;
     }
     1
@@ -151,7 +151,7 @@ fn write_original(
     let state = state_of(words, amounts, used, heads, links, e);
     let original = in_state(e, state);
     put(words, amounts, places, used, original);
-    chains::push(e.site, used, heads, links);
+    buckets::push(e.site, used, heads, links);
     Written {
         used: used + 1,
         held: written.held + count_held(state),
@@ -223,7 +223,7 @@ pub fn write_entries(
         n,
         named,
     );
-    periods_by_site::index(words, amounts, at, heads, links);
+    used_entries::index_sites(words, amounts, at, heads, links);
     write_originals(
         words,
         amounts,

@@ -1,4 +1,5 @@
+pub mod Laws
 pub mod Powers
 pub mod Shape
 pub mod Signs
-pub mod Laws
+pub mod Units

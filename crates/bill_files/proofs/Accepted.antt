@@ -32,7 +32,7 @@ use Rattle.calendar.proofs.Dates.{day-bound}
 use Rattle.fields.specs.declared.FieldType.{FieldType}
 use Rattle.fields.specs.declared.FieldType.the-variants.{RecordId, Digits, Number as Num, Date, DateTime, Char, Varchar}
 use Rattle.fields.specs.Fields.{isRead, isDay, fitsFilled, fitsType}
-use Rattle.types.specs.Types.{FH, TH, OC}
+use Rattle.tables.specs.Types.{FH, TH, OC}
 use Rattle.records.specs.Records.{recordFields, field, typeIn}
 use Rattle.tables.specs.Tables.{fieldCount, fieldType, isMandatory}
 use Rattle.records.proofs.Laws.{fields-known}

@@ -13,7 +13,7 @@ use borrow.Author.Tests.{eq-eqb}
 use lib.Dec.{eqb, ltb}
 use lib.ListN.{length, getD, length-map}
 use Rattle.lists.specs.Selections.{filter}
-use Rattle.types.specs.Types.{FH, SH, TH, OC, FT, followTable, mayFollow}
+use Rattle.tables.specs.Types.{FH, SH, TH, OC, FT, followTable, mayFollow}
 use Rattle.records.specs.Records.{typeIn}
 use Rattle.format.specs.Format.{lineAt}
 use Rattle.bill_files.specs.Accepted.{Bill, isPeriod, isBill, billIn, billsIn, billFile}

@@ -17,11 +17,11 @@ use Rattle.digits.specs.declared.Number.{Number}
 use Rattle.digits.specs.declared.Number.the-variants.{Value, Other}
 use Rattle.calendar.specs.declared.Day.{Day}
 use Rattle.calendar.specs.declared.Day.the-variants.{At, NotADate}
-use Rattle.types.specs.Types.{parentType}
+use Rattle.tables.specs.Types.{parentType}
 use Rattle.columns.specs.Columns.{heldNumber, heldDay, held, numberIn, recordType, cancel}
 use Rattle.columns.proofs.Laws.{map-at}
-use Rattle.groups.specs.Groups.{at, parentPlace, parentPlaces, pickedAt, picked}
-use Rattle.groups.proofs.Laws.{parent-at, parent-before, parent-type-there, parent-is, picked-length, picked-at}
+use Rattle.tables.specs.Groups.{at, parentPlace, parentPlaces, pickedAt, picked}
+use Rattle.tables.proofs.RecordTypes.{parent-at, parent-before, parent-type-there, parent-is, picked-length, picked-at}
 use Rattle.format.specs.Format.{lineAt}
 use Rattle.refusals.specs.Check.{numbers, types, parentsOf}
 use Rattle.bill_files.specs.Passing.{typeAt, idAt, dateAt, isCancelAt, isOfType, Under, OfTypeUnder}

@@ -14,11 +14,11 @@ use lib.ListN.{length}
 use lib.IntN.{ℤ}
 use Rattle.lists.proofs.Below.{first-at-most}
 use Rattle.calendar.specs.declared.Day.the-variants.{At}
-use Rattle.text.specs.Text.{linesOf}
-use Rattle.types.specs.Types.{SH, TH, DU, CH, OC, FT}
+use Rattle.records.specs.Text.{linesOf}
+use Rattle.tables.specs.Types.{SH, TH, DU, CH, OC, FT}
 use Rattle.columns.specs.Columns.{numberIn, chargeIn, usageIn, recordId, parentId, site, startDay, endDay, cancel}
-use Rattle.groups.specs.Groups.{at, parentPlaces, picked, places, ones}
-use Rattle.groups.proofs.Laws.{parents-length}
+use Rattle.tables.specs.Groups.{at, parentPlaces, picked, places, ones}
+use Rattle.tables.proofs.RecordTypes.{parents-length}
 use Rattle.format.specs.Format.{lineAt, firstUnformatted, firstUnfit, firstMisplaced, firstUnfilled, firstMiscoded}
 use Rattle.lists.proofs.Reflected.{denied}
 use Rattle.format.specs.Meaning.{Ordered}

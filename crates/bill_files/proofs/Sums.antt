@@ -17,11 +17,11 @@ use lib.ListN.{length}
 use lib.IntN.{ℤ, pos}
 use Rattle.digits.specs.declared.Number.{Number}
 use Rattle.digits.specs.declared.Number.the-variants.{Value, Other}
-use Rattle.types.specs.Types.{SH, TH, FT}
+use Rattle.tables.specs.Types.{SH, TH, FT}
 use Rattle.columns.specs.Columns.{heldNumber, site}
 use Rattle.columns.proofs.Laws.{map-at, number-held}
-use Rattle.groups.specs.Groups.{at, parentPlace, parentPlaces, picked, places, ones}
-use Rattle.groups.proofs.Laws.{parent-at, place-at, one-at}
+use Rattle.tables.specs.Groups.{at, parentPlace, parentPlaces, picked, places, ones}
+use Rattle.tables.proofs.RecordTypes.{parent-at, place-at, one-at}
 use Rattle.format.specs.Format.{lineAt}
 use Rattle.lists.proofs.Reflected.{both-of}
 use Rattle.headers.specs.Headers.{isNumber}

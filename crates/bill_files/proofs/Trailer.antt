@@ -13,12 +13,12 @@ use borrow.Author.Tests.{eq-eqb, ne-eqb, eqb-true, eqb-false, le-leb, lt-leb, le
 use lib.Dec.{eqb, leb}
 use lib.ListN.{length}
 use lib.IntN.{ℤ, pos, _+ℤ_, +ℤ-idl, +ℤ-idr, +ℤ-assoc, +ℤ-comm}
-use Rattle.types.specs.Types.{FH, TH, CH, OC, FT, mayFollow, parentType}
+use Rattle.tables.specs.Types.{FH, TH, CH, OC, FT, mayFollow, parentType}
 use Rattle.records.specs.Records.{typeIn}
 use Rattle.columns.specs.Columns.{chargeIn}
 use Rattle.columns.proofs.Laws.{map-at}
-use Rattle.groups.specs.Groups.{at, parentPlace, places, ones}
-use Rattle.groups.proofs.Laws.{parent-at, picked-at, place-at, one-at}
+use Rattle.tables.specs.Groups.{at, parentPlace, places, ones}
+use Rattle.tables.proofs.RecordTypes.{parent-at, picked-at, place-at, one-at}
 use Rattle.format.specs.Format.{lineAt}
 use Rattle.identity.proofs.Meaning.{every-parent}
 use Rattle.totals.specs.Totals.{amountAt, groupSum}

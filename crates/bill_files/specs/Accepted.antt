@@ -18,7 +18,7 @@ use Rattle.digits.specs.Digits.{digitsOf}
 use Rattle.calendar.specs.declared.Day.{Day}
 use Rattle.calendar.specs.declared.Day.the-variants.{At, NotADate}
 use Rattle.calendar.specs.Calendar.{dayOf}
-use Rattle.types.specs.Types.{TH, OC}
+use Rattle.tables.specs.Types.{TH, OC}
 use Rattle.records.specs.Records.{field, typeIn}
 use Rattle.columns.specs.Columns.{fieldIn, chargeIn, usageIn, site, reference, startDay, endDay, cancel}
 use Rattle.format.specs.Format.{lineAt}

@@ -17,10 +17,10 @@ use Rattle.calendar.specs.declared.Day.{Day}
 use Rattle.calendar.specs.declared.Day.the-variants.{At}
 use Rattle.calendar.specs.Calendar.{dayOf}
 use Rattle.amounts.specs.Amounts.{amountOf, units}
-use Rattle.types.specs.Types.{SH, TH, DU, CH, OC, FT, parentType}
+use Rattle.tables.specs.Types.{SH, TH, DU, CH, OC, FT, parentType}
 use Rattle.records.specs.Records.{field, typeIn}
 use Rattle.columns.specs.Columns.{fieldIn, chargeIn, usageIn, recordId, parentId, site, startDay, endDay, cancel}
-use Rattle.groups.specs.Groups.{parentPlace}
+use Rattle.tables.specs.Groups.{parentPlace}
 use Rattle.format.specs.Format.{lineAt, unitOf}
 use Rattle.format.specs.Meaning.{Formatted, Fitting, Ordered, Filled, Coded}
 use Rattle.headers.specs.Headers.{isNumber}

@@ -8,7 +8,7 @@ use mathlib.Core.Bool.{true, false, not}
 use mathlib.Core.List.{List, _++_, append-assoc}
 use Prim.Native.Nat.{ℕ}
 use lib.ListN.{length}
-use Rattle.text.specs.Text.{linesOf}
+use Rattle.records.specs.Text.{linesOf}
 use Rattle.refusals.specs.declared.Outcome.{Outcome}
 use Rattle.refusals.specs.Refusals.{Refusal, outcome, firstRefusal}
 use Rattle.refusals.specs.Check.{testRefusals, testsTo12, testsFrom14, settingsFit, isTooLarge}

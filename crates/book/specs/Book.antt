@@ -6,7 +6,7 @@ use mathlib.Core.List.{List}
 use Prim.Native.Nat.{ℕ, _+_, _*_, _≤_}
 use lib.IntN.{ℤ}
 use lib.ListN.{length}
-use Rattle.text.specs.Text.{linesOf}
+use Rattle.records.specs.Text.{linesOf}
 use Rattle.refusals.specs.Refusals.{firstRefusal}
 use Rattle.refusals.specs.Check.{testRefusals, settingsFit, isTooLarge}
 use Rattle.entries.specs.declared.Entry.{Entry}

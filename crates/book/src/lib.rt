@@ -3,18 +3,18 @@ ghost use mathlib.Core.Path.{_≡_};
 ghost use mathlib.Core.List.{List};
 ghost use Prim.Native.Nat.{ℕ, _≤_};
 ghost use lib.ListN.{length};
-ghost use Rattle.text.specs.Text.{linesOf, Placed};
+ghost use Rattle.records.specs.Text.{linesOf, Placed};
 ghost use Rattle.refusals.specs.Check.{Read};
 ghost use Rattle.entries.specs.Words.{RoomFor, entriesOf};
 ghost use Rattle.soundness.specs.Room.{LedgerRoom};
 ghost use Rattle.booking.specs.Booking.{inputOf, fileEntry};
 ghost use Rattle.file_bills.specs.Bills.{fileIn};
 ghost use Rattle.file_bills.specs.Reading.{BillRoom};
-ghost use Rattle.ledger_refusals.specs.Bills.{Bills};
+ghost use Rattle.ledger_tests.specs.Bills.{Bills};
 ghost use Rattle.book.specs.Book.{Meets, Ready, Opened, Tested, FileRoom};
 use booking::Answer;
 use entries::Entry;
-use text::Lines;
+use records::Lines;
 
 // Book of a file that passes tests 2 to 38, over a sound ledger, from its TH and OC.
 fn book_bills(
@@ -35,7 +35,7 @@ fn book_bills(
     ensures { λ r. ⌜ ((retailer : ℕ) (distributors : List ℕ) → (let i = inputOf retailer distributors (now (file .entry)) (entriesOf (now (words .entry)) (now (amounts .entry)) places) used in Tested i → Meets i r (entriesOf (now (words .exit)) (now (amounts .exit)) places))) ⌝ }
 {
     let mut named = [0u16; 4096];
-    let refusal = ledger_refusals::first_refusal(
+    let refusal = ledger_tests::first_refusal(
         file,
         words,
         amounts,
@@ -396,7 +396,7 @@ fn book_file(
 {
     let mut starts = [0usize; 4096];
     let mut ends = [0usize; 4096];
-    match text::find_lines(file, &mut starts, &mut ends) {
+    match records::find_lines(file, &mut starts, &mut ends) {
         Lines::Count(n) => book_lines(
             retailer,
             distributors,

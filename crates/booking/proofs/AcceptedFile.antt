@@ -14,7 +14,7 @@ use lib.Dec.{T, eqb, eqb→eq}
 use lib.ListN.{length, getD}
 use Rattle.lists.specs.Selections.{filter, any, all, distinct}
 use Rattle.lists.proofs.Selections.{from-true, not-false, and-both, and-right, cases, neither}
-use Rattle.text.specs.Text.{linesOf}
+use Rattle.records.specs.Text.{linesOf}
 use Rattle.bill_files.specs.Accepted.{Bill, BillFile, billFile, billsIn, idIn}
 use Rattle.bill_files.specs.Fits.{BillFits, FileFits, Distinct}
 use Rattle.format.specs.Format.{lineAt}

@@ -13,7 +13,7 @@ use lib.Dec.{T, eqb, ltb}
 use lib.ListN.{length}
 use Rattle.lists.specs.Selections.{all}
 use Rattle.lists.proofs.Selections.{not-false}
-use Rattle.text.specs.Text.{linesOf}
+use Rattle.records.specs.Text.{linesOf}
 use Rattle.refusals.specs.declared.Outcome.{Outcome}
 use Rattle.refusals.specs.Refusals.{Refusal, numbersOf}
 use Rattle.refusals.specs.Check.{formatRefusals, orderRefusals, identityRefusals, headerRefusals, periodRefusals, siteRefusals, periodTotalRefusals, trailerRefusals, childRefusals, totalRefusals, testsTo12, testsFrom14, settingsFit, isTooLarge}

@@ -9,7 +9,7 @@ use mathlib.Core.Option.{none, some}
 use mathlib.Core.List.{List}
 use lib.IntN.{pos, negℤ}
 use lib.ListN.{length, getD}
-use Rattle.text.specs.Text.{linesOf}
+use Rattle.records.specs.Text.{linesOf}
 use Rattle.refusals.specs.Check.{settingsFit, isTooLarge}
 use Rattle.bill_files.specs.Passing.{Passing}
 use Rattle.bill_files.specs.Accepted.{Bill, BillFile}

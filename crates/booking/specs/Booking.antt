@@ -11,7 +11,7 @@ use lib.ListN.{length, getD, take, drop}
 use Rattle.lists.specs.First.{firstWhere}
 use Rattle.lists.specs.Selections.{filter, any, count}
 use Rattle.calendar.specs.Periods.{sharesDay}
-use Rattle.text.specs.Text.{linesOf}
+use Rattle.records.specs.Text.{linesOf}
 use Rattle.refusals.specs.declared.Outcome.{Outcome}
 use Rattle.refusals.specs.Check.{testsTo12, testsFrom14, settingsFit, isTooLarge}
 use Rattle.refusals.specs.Refusals.{Refusal, atLine, house, firstRefusal}

@@ -1,4 +1,5 @@
-// The first place that has a value, by buckets and a tree in each: a search looks at one place for each bit of its value at most, however the values are chosen.
+// Places by their values, in buckets: the first place that has a value, by a tree in each bucket, and all places that have one, by a chain.
+// In a tree a search looks at one place for each bit of its value at most, however the values are chosen.
 // A place is held as itself and one, in 16 bits: there are at most 65,535 places.
 ghost use mathlib.Core.Path.{_≡_};
 ghost use Prim.Native.Nat.{ℕ, _+_, _-_, _*_, _≤_, _<_};
@@ -6,6 +7,7 @@ ghost use lib.ListN.{length, getD};
 ghost use Rattle.buckets.specs.Buckets.{firstPlace, Led, bucketOf};
 ghost use Rattle.lists.specs.Below.{firstBelow};
 ghost use Rattle.buckets.specs.Trees.{Indexed, Searched, repeatsAt};
+ghost use Rattle.buckets.specs.Chains.{ChainRoom, Pushed};
 
 // The bucket of a value, of so many.
 pub fn bucket(value: u64, size: usize) -> usize
@@ -101,4 +103,30 @@ pub fn place_of(values: &[u64], n: usize, size: usize, tree: &[u16], value: u64)
         return n;
     }
     held - 1
+}
+
+// Puts the place i, which has a value, after all places before it into its bucket.
+pub fn push(value: u64, i: usize, heads: &mut [u16], links: &mut [u16])
+    requires { ⌜ ChainRoom (i + 1) (now heads) (now links) ⌝ }
+    ensures { λ _. ⌜ Pushed value i (now (heads .entry)) (now (links .entry)) (now (heads .exit)) (now (links .exit)) ⌝ }
+{
+    let b = bucket(value, heads.len());
+    links[i] = heads[b];
+    heads[b] = (i + 1) as u16;
+}
+
+// Where the chain of a value begins.
+pub fn head(heads: &[u16], value: u64) -> usize
+    requires { ⌜ (0 < length (now heads)) × (length (now heads) ≤ 65536) ⌝ }
+    ensures { λ r. ⌜ r ≡ getD (now (heads .entry)) (bucketOf (length (now (heads .entry))) value) 0 ⌝ }
+{
+    heads[bucket(value, heads.len())] as usize
+}
+
+// What stands before a place in its chain.
+pub fn next(links: &[u16], place: usize) -> usize
+    requires { ⌜ place < length (now links) ⌝ }
+    ensures { λ r. ⌜ r ≡ getD (now (links .entry)) place 0 ⌝ }
+{
+    links[place] as usize
 }

@@ -1,3 +1,3 @@
-pub mod Days
 pub mod Dates
+pub mod Days
 pub mod Periods

@@ -1,8 +1,9 @@
-// Days of the years 2000 to 2099, and periods of days. Day 0 is 1 January 2000.
+// Days of the years 2000 to 2099, dates and date times, and periods of days. Day 0 is 1 January 2000.
 ghost use mathlib.Core.Path.{_≡_};
 ghost use Prim.Native.Nat.{_≤_, _<_, min, max};
-ghost use Rattle.calendar.specs.Calendar.{leapYear, monthDays, firstDay, firstDays, dateDay};
+ghost use Rattle.calendar.specs.Calendar.{leapYear, monthDays, firstDay, firstDays, dateDay, dayOf, atTime, dateTimeOf};
 ghost use Rattle.calendar.specs.Periods.{sharesDay};
+use digits::Number;
 
 pub enum Day {
     At(u64),
@@ -1313,4 +1314,70 @@ impl Period {
     {
         later(self.start, other.start) <= earlier(self.end, other.end)
     }
+}
+
+// The day that eight digits YYYYMMDD name, by the table of first days.
+pub fn read_day(table: &[u64], s: &[u8]) -> Day
+    requires { ⌜ now table ≡ firstDays ⌝ }
+    ensures { λ r. ⌜ r ≡ dayOf (now (s .entry)) ⌝ }
+{
+    if s.len() != 8 {
+        return Day::NotADate;
+    }
+    match digits::digits(s) {
+        Number::Value(n) => date_day(table, n),
+        Number::Other => Day::NotADate,
+    }
+}
+
+// The day that eight digits YYYYMMDD name.
+pub fn day_of(s: &[u8]) -> Day
+    ensures { λ r. ⌜ r ≡ dayOf (now (s .entry)) ⌝ }
+{
+    let table = first_days();
+    read_day(&table, s)
+}
+
+// The second of a day that the digits HHMMSS name, read as one number.
+fn at_time(day: u64, n: u64) -> DateTime
+    ensures { λ r. ⌜ r ≡ atTime day (Number.Value n) ⌝ }
+{
+    let hour = n / 10000;
+    let minute = n / 100 % 100;
+    let second = n % 100;
+    if 23 < hour {
+        return DateTime::NotADateTime;
+    }
+    if 59 < minute {
+        return DateTime::NotADateTime;
+    }
+    if 59 < second {
+        return DateTime::NotADateTime;
+    }
+    DateTime::Second(day, hour * 3600 + minute * 60 + second)
+}
+
+// The day and second that fourteen digits YYYYMMDDHHMMSS name, by the table of first days.
+pub fn read_date_time(table: &[u64], s: &[u8]) -> DateTime
+    requires { ⌜ now table ≡ firstDays ⌝ }
+    ensures { λ r. ⌜ r ≡ dateTimeOf (now (s .entry)) ⌝ }
+{
+    if s.len() != 14 {
+        return DateTime::NotADateTime;
+    }
+    let Day::At(day) = read_day(table, &s[..8]) else {
+        return DateTime::NotADateTime;
+    };
+    let Number::Value(n) = digits::digits(&s[8..]) else {
+        return DateTime::NotADateTime;
+    };
+    at_time(day, n)
+}
+
+// The day and second that fourteen digits YYYYMMDDHHMMSS name.
+pub fn date_time_of(s: &[u8]) -> DateTime
+    ensures { λ r. ⌜ r ≡ dateTimeOf (now (s .entry)) ⌝ }
+{
+    let table = first_days();
+    read_date_time(&table, s)
 }

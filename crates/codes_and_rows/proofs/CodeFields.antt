@@ -17,7 +17,7 @@ use lib.ListN.{length, getD, List·getD-eq-default}
 use Rattle.lists.proofs.Table.{every, every-at}
 use Rattle.lists.specs.Written.{written}
 use Rattle.format.specs.Format.{commodityFields, unitFields, cancelFields, exemptionFields}
-use Rattle.leading_bytes.specs.LeadingBytes.{packed}
+use Rattle.readings.specs.LeadingBytes.{packed}
 use Rattle.codes_and_rows.specs.Numbers.{isEither, codesStand}
 
 -- ---- lists of fields

@@ -15,14 +15,14 @@ use lib.Dec.{T, eqb}
 use lib.ListN.{getD}
 use Rattle.lists.specs.Bytes.{sameBytes}
 use Rattle.lists.specs.Written.{written}
-use Rattle.text.specs.Text.{fieldsOf}
-use Rattle.types.specs.Types.{typeNamed}
+use Rattle.records.specs.Text.{fieldsOf}
+use Rattle.tables.specs.Types.{typeNamed}
 use Rattle.records.specs.Records.{recordFields, field, typeIn}
 use Rattle.records.proofs.Laws.{fields-few, field-at}
 use Rattle.tables.specs.Tables.{fieldCount, fieldType}
 use Rattle.tables.proofs.Laws.{count-most}
 use Rattle.format.specs.Format.{commodityFields, unitFields, cancelFields, exemptionFields, neither, miscoded}
-use Rattle.leading_bytes.specs.LeadingBytes.{packed}
+use Rattle.readings.specs.LeadingBytes.{packed}
 use Rattle.codes_and_rows.specs.Fields.{FieldFits, fieldAfter, NumbersRead}
 use Rattle.codes_and_rows.specs.Numbers.{isEither, codesStand, unitIf}
 use Rattle.codes_and_rows.proofs.Texts.{Printable, printable-text, printable-field, packed-is}

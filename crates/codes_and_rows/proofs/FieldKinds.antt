@@ -26,8 +26,8 @@ use Rattle.fields.specs.Fields.{fitsType}
 use Rattle.tables.specs.Tables.{fieldCount, fieldType}
 use Rattle.format.specs.Format.{commodityFields, unitFields, cancelFields, exemptionFields}
 use Rattle.columns.specs.Columns.{fieldTable, fieldOf, heldNumber, heldDay}
-use Rattle.leading_bytes.specs.LeadingBytes.{packed}
-use Rattle.amount_readings.specs.AmountReadings.{signedOf}
+use Rattle.readings.specs.LeadingBytes.{packed}
+use Rattle.readings.specs.AmountReadings.{signedOf}
 use Rattle.readings.specs.Readings.{Says}
 
 -- ---- the field k of a type, counted from 1, is of a kind; there is no field 0

@@ -18,7 +18,7 @@ use Rattle.lists.proofs.Table.{every, tabulate-at}
 use Rattle.columns.specs.Columns.{fieldTable, fieldOf}
 use Rattle.columns.specs.Rows.{RowStored}
 use Rattle.columns.proofs.Rows.{row-none, row-more}
-use Rattle.leading_bytes.specs.LeadingBytes.{packedAfter}
+use Rattle.readings.specs.LeadingBytes.{packedAfter}
 use Rattle.codes_and_rows.specs.Numbers.{fieldNumber, columnNumber, columnNumbers}
 use Rattle.codes_and_rows.proofs.CodeFields.{small-at}
 

@@ -18,8 +18,8 @@ use Rattle.amounts.specs.Amounts.{amountOf, units}
 use Rattle.records.specs.Records.{field, typeIn}
 use Rattle.tables.specs.Tables.{fieldCount, fieldType}
 use Rattle.columns.specs.Columns.{fieldOf, heldNumber, heldDay, heldCancel, held, numberIn, chargeIn, usageIn, charge, usage}
-use Rattle.leading_bytes.specs.LeadingBytes.{packed, packedAfter}
-use Rattle.amount_readings.specs.AmountReadings.{signedOf}
+use Rattle.readings.specs.LeadingBytes.{packed, packedAfter}
+use Rattle.readings.specs.AmountReadings.{signedOf}
 use Rattle.codes_and_rows.specs.Fields.{NumbersRead}
 use Rattle.codes_and_rows.specs.Numbers.{fieldNumber, columnNumber, columnNumbers, columnAmount}
 use Rattle.codes_and_rows.proofs.Texts.{Printable, printable-text, packed-is}

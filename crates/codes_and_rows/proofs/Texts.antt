@@ -20,10 +20,10 @@ use Rattle.lists.specs.Bytes.{sameBytes}
 use Rattle.lists.proofs.Below.{some-none}
 use Rattle.lists.proofs.Bytes.{same-is, is-same}
 use Rattle.lists.proofs.Table.{every, every-at, and-left, and-right}
-use Rattle.text.specs.Text.{onto, cut}
+use Rattle.records.specs.Text.{onto, cut}
 use Rattle.digits.proofs.Laws.{both-true}
 use Rattle.format.specs.Format.{isPrintable}
-use Rattle.leading_bytes.specs.LeadingBytes.{packed, packedAfter}
+use Rattle.readings.specs.LeadingBytes.{packed, packedAfter}
 use Rattle.codes_and_rows.specs.Fields.{fieldAfter}
 
 abbrev pub Printable : List ℕ → Type 0

@@ -5,7 +5,7 @@ use mathlib.Core.Path.{_≡_}
 use mathlib.Core.List.{List, []}
 use mathlib.Core.Bool.{true}
 use lib.ListN.{length, getD}
-use Rattle.text.specs.Text.{fieldsOf}
+use Rattle.records.specs.Text.{fieldsOf}
 use Rattle.fields.specs.Fields.{fitsType}
 use Rattle.tables.specs.Tables.{fieldCount, fieldType}
 use Rattle.readings.specs.Readings.{Says}

@@ -10,8 +10,8 @@ use Rattle.lists.specs.Tabulate.{tabulate}
 use Rattle.lists.specs.Written.{written}
 use Rattle.format.specs.Format.{commodityFields, unitFields, cancelFields, exemptionFields}
 use Rattle.columns.specs.Columns.{fieldOf}
-use Rattle.leading_bytes.specs.LeadingBytes.{packed}
-use Rattle.amount_readings.specs.AmountReadings.{signedOf}
+use Rattle.readings.specs.LeadingBytes.{packed}
+use Rattle.readings.specs.AmountReadings.{signedOf}
 
 -- ---- test 7 by numbers: the number of the field that a list of fields gives a type is that of one of two texts; a type without the field passes
 unfoldable pub isEither : ℕ → List ℕ → List ℕ → List ℕ → Bool

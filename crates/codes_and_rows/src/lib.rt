@@ -106,7 +106,7 @@ pub fn store_line(
     let cancel = fields[row][7];
     words[7 * room + i] = if numbers[cancel] == 89 { 1 } else { 0 };
     let charge = fields[row][8];
-    charges[i] = amount_readings::signed(numbers[charge]);
+    charges[i] = readings::signed(numbers[charge]);
     let usage = fields[row][9];
-    usages[i] = amount_readings::signed(numbers[usage]);
+    usages[i] = readings::signed(numbers[usage]);
 }

@@ -69,7 +69,7 @@ pub extern "C" fn comparison_date_time(s: &[u8], day: &mut u64, second: &mut u64
     ensures day { λ r. ⌜ now (day .exit) ≡ dayAfter (now (day .entry)) (dateTimeOf (now (s .entry))) ⌝ }
     ensures second { λ r. ⌜ now (second .exit) ≡ secondAfter (now (second .entry)) (dateTimeOf (now (s .entry))) ⌝ }
 {
-    match dates::date_time_of(s) {
+    match calendar::date_time_of(s) {
         DateTime::Second(d, t) => {
             *day = d;
             *second = t;

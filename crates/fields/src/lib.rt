@@ -32,5 +32,5 @@ pub fn is_date_time(table: &[u64], s: &[u8]) -> bool
     if s.len() == 0 {
         return true;
     }
-    is_moment(dates::read_date_time(table, s))
+    is_moment(calendar::read_date_time(table, s))
 }

@@ -20,8 +20,8 @@ use Rattle.lists.specs.Below.{firstFrom, firstBelow, someBelow}
 use Rattle.lists.specs.Bytes.{sameBytes}
 use Rattle.lists.specs.Written.{written}
 use Rattle.fields.specs.Fields.{fitsType}
-use Rattle.text.specs.Text.{fieldsOf}
-use Rattle.types.specs.Types.{FH, FT, mayFollow}
+use Rattle.records.specs.Text.{fieldsOf}
+use Rattle.tables.specs.Types.{FH, FT, mayFollow}
 use Rattle.records.specs.Records.{recordFields, field, typeIn}
 use Rattle.tables.specs.Tables.{fieldCount, fieldType, isMandatory}
 use Rattle.records.proofs.Laws.{fields-known, field-none}

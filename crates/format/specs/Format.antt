@@ -9,7 +9,7 @@ use Rattle.lists.specs.Below.{firstBelow, someBelow}
 use Rattle.lists.specs.Bytes.{sameBytes}
 use Rattle.lists.specs.Written.{written}
 use Rattle.fields.specs.Fields.{fitsType}
-use Rattle.types.specs.Types.{FH, FT, mayFollow}
+use Rattle.tables.specs.Types.{FH, FT, mayFollow}
 use Rattle.records.specs.Records.{recordFields, field, typeIn}
 use Rattle.tables.specs.Tables.{fieldCount, fieldType, isMandatory}
 

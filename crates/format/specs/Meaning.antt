@@ -8,8 +8,8 @@ use mathlib.Core.List.{List, []}
 use lib.ListN.{length, getD}
 use Rattle.lists.specs.Written.{written}
 use Rattle.fields.specs.Fields.{fitsType}
-use Rattle.text.specs.Text.{fieldsOf}
-use Rattle.types.specs.Types.{FH, FT, mayFollow}
+use Rattle.records.specs.Text.{fieldsOf}
+use Rattle.tables.specs.Types.{FH, FT, mayFollow}
 use Rattle.records.specs.Records.{recordFields, field, typeIn}
 use Rattle.tables.specs.Tables.{fieldCount, fieldType, isMandatory}
 use Rattle.format.specs.Format.{lineAt, commodityFields, unitFields, cancelFields, exemptionFields}

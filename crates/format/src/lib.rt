@@ -4,8 +4,8 @@ ghost use mathlib.Core.Bool.{not};
 ghost use Prim.Native.Nat.{_≤_, _<_};
 ghost use lib.ListN.{length, getD};
 ghost use Rattle.lists.specs.Below.{someBelow};
-ghost use Rattle.text.specs.Text.{part};
-ghost use Rattle.types.specs.Types.{followTable};
+ghost use Rattle.records.specs.Text.{part};
+ghost use Rattle.tables.specs.Types.{followTable};
 ghost use Rattle.format.specs.Format.{isPrintable, unformatted, misplaced, firstMisplaced};
 
 // Whether a byte of s is not 32 to 126, one byte after the other.
@@ -95,14 +95,14 @@ fn is_misplaced(table: &[[bool; 9]; 9], types: &[u64], i: usize) -> bool
     if i == 0 {
         return present != 0;
     }
-    !types::may_follow(table, types[i - 1], present)
+    !tables::may_follow(table, types[i - 1], present)
 }
 
 // Test 4.
 pub fn first_misplaced(types: &[u64]) -> usize
     ensures { λ r. ⌜ r ≡ firstMisplaced (now (types .entry)) ⌝ }
 {
-    let table = types::follow_table();
+    let table = tables::follow_table();
     let mut i: usize = 0;
     while i < types.len() {
         if is_misplaced(&table, types, i) {

@@ -6,7 +6,7 @@ ghost use lib.Dec.{eqb};
 ghost use lib.ListN.{length};
 ghost use lib.IntN.{pos};
 ghost use Rattle.lists.specs.Below.{someBelow};
-ghost use Rattle.amount_readings.specs.AmountReadings.{signedOf};
+ghost use Rattle.readings.specs.AmountReadings.{signedOf};
 ghost use Rattle.totals.specs.Totals.{sameℤ};
 ghost use Rattle.headers.specs.Headers.{isNumber};
 ghost use Rattle.headers.specs.Steps.{isSender};
@@ -63,5 +63,5 @@ pub fn counts_records(said: u64, n: usize) -> bool
     requires { ⌜ n ≤ 4096 ⌝ }
     ensures { λ r. ⌜ r ≡ sameℤ (signedOf said) (pos n) ⌝ }
 {
-    amount_readings::signed(said) == n as i64
+    readings::signed(said) == n as i64
 }

@@ -15,9 +15,9 @@ use lib.Dec.{eqb, ltb}
 use lib.ListN.{length}
 use Rattle.lists.specs.Below.{firstFrom, firstBelow, someBelow}
 use Rattle.lists.proofs.Below.{none-below, none-is-end, some-none, none-some}
-use Rattle.types.specs.Types.{FH, parentType, mayFollow}
-use Rattle.groups.specs.Groups.{at, parentPlace, parentPlaces}
-use Rattle.groups.proofs.Laws.{parents-length, parent-at, parent-before, parent-type-there, parent-none, parent-is}
+use Rattle.tables.specs.Types.{FH, parentType, mayFollow}
+use Rattle.tables.specs.Groups.{at, parentPlace, parentPlaces}
+use Rattle.tables.proofs.RecordTypes.{parents-length, parent-at, parent-before, parent-type-there, parent-none, parent-is}
 use Rattle.identity.specs.Identity.{repeats, firstRepeated, unlike, firstUnlike}
 
 -- ---- test 9

@@ -6,7 +6,7 @@ use mathlib.Core.Bool.{Bool, false, cond, not}
 use mathlib.Core.List.{List}
 use Prim.Native.Nat.{ℕ, _-_}
 use lib.Dec.{eqb}
-use Rattle.groups.specs.Groups.{at}
+use Rattle.tables.specs.Groups.{at}
 use Rattle.identity.specs.Identity.{unlike}
 
 module _ (own theirs : List ℕ) (i : ℕ) where

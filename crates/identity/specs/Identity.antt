@@ -6,7 +6,7 @@ use mathlib.Core.Bool.{Bool, false, cond, not}
 use lib.ListN.{length}
 use lib.Dec.{eqb}
 use Rattle.lists.specs.Below.{firstBelow, someBelow}
-use Rattle.groups.specs.Groups.{at}
+use Rattle.tables.specs.Groups.{at}
 
 -- ---- 9: "no Record ID repeats in the file (the later line fails)"
 unfoldable pub repeats : List ℕ → ℕ → Bool

@@ -3,8 +3,8 @@
 use mathlib.Core.List.{List}
 use Rattle.entries.specs.declared.Entry.{Entry}
 use Rattle.booking.proofs.Archive.{calls-guaranteed}
-use Rattle.lent_booking.specs.declared.BookReply.{BookReply}
-use Rattle.lent_booking.specs.Replies.{answerOf}
+use Rattle.lent_ledger.specs.declared.BookReply.{BookReply}
+use Rattle.lent_ledger.specs.BookReplies.{answerOf}
 use Rattle.intake.specs.Calls.{HostGuaranteed}
 
 pub host-guarantee : HostGuaranteed

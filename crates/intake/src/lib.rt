@@ -2,24 +2,54 @@
 // lower 32 bits the line or the value asked for; that of Book, Totals and Find is a struct of document 01's number and values.
 ghost use mathlib.Core.Path.{_≡_};
 ghost use Rattle.calendar.specs.Calendar.{dayOf};
-ghost use Rattle.codes.specs.Codes.{codeOf};
+ghost use Rattle.refusals.specs.Codes.{codeOf};
 ghost use Rattle.refusals.specs.Check.{checkOf};
+ghost use Rattle.intake.specs.Answers.{packed, checkAnswer, dayAnswer, codeAnswer};
 ghost use Rattle.ledger.specs.Ledger.{totalsResult, findResult};
 ghost use Rattle.booking.specs.Booking.{inputOf};
 ghost use Rattle.lent_ledger.specs.Replies.{totalsReply, findReply};
-ghost use Rattle.lent_booking.specs.Replies.{HostBooked};
-ghost use Rattle.packed_answers.specs.Answers.{packed, checkAnswer, dayAnswer, codeAnswer};
+ghost use Rattle.lent_ledger.specs.BookReplies.{HostBooked};
+use calendar::Day;
 use entries::Entry;
-use lent_booking::BookReply;
+use lent_ledger::BookReply;
 use lent_ledger::FindReply;
 use lent_ledger::TotalsReply;
+use refusals::RejectionCode;
+
+// Check: the first refusal of a file, as its number and line; 0 and 0 when all tests pass.
+pub fn check(retailer: u64, distributors: &[u8], file: &[u8]) -> u64
+    ensures { λ r. ⌜ r ≡ packed (checkAnswer (checkOf retailer (now (distributors .entry)) (now (file .entry)))) ⌝ }
+{
+    let outcome = validation::check(retailer, distributors, file);
+    outcome.number * 4294967296 + outcome.line
+}
+
+// The day of a date; 3 if it isn't one.
+pub fn day(date: &[u8]) -> u64
+    ensures { λ r. ⌜ r ≡ packed (dayAnswer (dayOf (now (date .entry)))) ⌝ }
+{
+    match calendar::day_of(date) {
+        Day::At(day) => day,
+        Day::NotADate => 3 * 4294967296,
+    }
+}
+
+// The rejection code of a test; 107 if it isn't one of Table 5-1 that document 01 lists.
+pub fn code(test: u64) -> u64
+    ensures { λ r. ⌜ r ≡ packed (codeAnswer (codeOf test)) ⌝ }
+{
+    match refusals::code_of(test) {
+        RejectionCode::Code(code) => code,
+        RejectionCode::NotATest => 107 * 4294967296,
+    }
+}
 
 // Check: the first refusal of a file, as its number and line; 0 and 0 when all tests pass.
 #[no_mangle]
 pub extern "C" fn intake_check(retailer: u64, distributors: &[u8], file: &[u8]) -> u64
     ensures { λ r. ⌜ r ≡ packed (checkAnswer (checkOf retailer (now (distributors .entry)) (now (file .entry)))) ⌝ }
 {
-    packed_answers::check(retailer, distributors, file)
+    check(retailer, distributors, file)
 }
 
 // The day of a date; 3 if it isn't one.
@@ -27,7 +57,7 @@ pub extern "C" fn intake_check(retailer: u64, distributors: &[u8], file: &[u8]) 
 pub extern "C" fn intake_day(date: &[u8]) -> u64
     ensures { λ r. ⌜ r ≡ packed (dayAnswer (dayOf (now (date .entry)))) ⌝ }
 {
-    packed_answers::day(date)
+    day(date)
 }
 
 // The rejection code of a test; 107 if it isn't one of Table 5-1 that document 01 lists.
@@ -35,7 +65,7 @@ pub extern "C" fn intake_day(date: &[u8]) -> u64
 pub extern "C" fn intake_code(test: u64) -> u64
     ensures { λ r. ⌜ r ≡ packed (codeAnswer (codeOf test)) ⌝ }
 {
-    packed_answers::code(test)
+    code(test)
 }
 
 // Book: refusals in document 01's order, which leave the run as it was lent; else the entries. The used count afterwards is the one before and the entries added. A
@@ -50,11 +80,11 @@ pub extern "C" fn intake_book(
 ) -> BookReply
     ensures { λ r. ⌜ HostBooked (inputOf retailer (now (distributors .entry)) (now (file .entry)) (now (run .entry)) used) r (now (run .exit)) ⌝ }
 {
-    let places = lent_booking::places_told(file, run.len(), used);
+    let places = lent_ledger::places_told(file, run.len(), used);
     if places <= 2048 {
         let mut few_words = [0u64; 18432];
         let mut few_amounts = [0i64; 4096];
-        return lent_booking::book_in(
+        return lent_ledger::book_in(
             retailer,
             distributors,
             file,
@@ -68,7 +98,7 @@ pub extern "C" fn intake_book(
     if places <= 5120 {
         let mut some_words = [0u64; 46080];
         let mut some_amounts = [0i64; 10240];
-        return lent_booking::book_in(
+        return lent_ledger::book_in(
             retailer,
             distributors,
             file,
@@ -81,7 +111,7 @@ pub extern "C" fn intake_book(
     }
     let mut words = [0u64; 73728];
     let mut amounts = [0i64; 16384];
-    lent_booking::book_in(
+    lent_ledger::book_in(
         retailer,
         distributors,
         file,

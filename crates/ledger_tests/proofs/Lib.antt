@@ -1,5 +1,6 @@
 pub mod Cancelled
 pub mod Naming
 pub mod Opposed
+pub mod Order
 pub mod Resumed
 pub mod Stored

@@ -30,7 +30,7 @@ use Rattle.soundness.specs.Sound.{sameSubject}
 use Rattle.booking.specs.Booking.{entry, namesEntry, refersTo, isLiveOrHeld, namedEntry, cancelNamed, firstCancel, isUnnamed}
 use Rattle.booking.specs.Acceptable.{billAt}
 use Rattle.booking.proofs.Added.{length-cancelled}
-use Rattle.entries_by_key.specs.Searches.{referenceOf, namesAs, namedFirst}
+use Rattle.used_entries.specs.Searches.{referenceOf, namesAs, namedFirst}
 use Rattle.file_bills.specs.Bills.{sourceEntry, isCancel, heldReference}
 use Rattle.file_bills.proofs.Sources.{source-cancel, source-as}
 use Rattle.ledger_tests.specs.Tests.{cancelledBy, namedPlace, Named, Marked, names, Tried}

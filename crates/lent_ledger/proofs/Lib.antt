@@ -1,5 +1,10 @@
+pub mod BookInCalled
+pub mod BookLaws
+pub mod BookReplyCalled
 pub mod FindInCalled
 pub mod FindReplyCalled
 pub mod Laws
+pub mod PlacesToldCalled
 pub mod TotalsInCalled
 pub mod TotalsReplyCalled
+pub mod WrittenCalled

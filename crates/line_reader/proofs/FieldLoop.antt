@@ -15,16 +15,16 @@ use lib.Seq.{getD-set-other}
 use Rattle.lists.specs.Below.{someBelow}
 use Rattle.lists.specs.Bytes.{sameBytes}
 use Rattle.lists.specs.Written.{written}
-use Rattle.text.specs.Text.{fieldsOf, part, Placed}
-use Rattle.text.proofs.Placed.{all-placed}
-use Rattle.types.specs.Types.{typeNamed}
+use Rattle.records.specs.Text.{fieldsOf, part, Placed}
+use Rattle.records.proofs.Placed.{all-placed}
+use Rattle.tables.specs.Types.{typeNamed}
 use Rattle.fields.specs.declared.FieldType.{FieldType}
 use Rattle.tables.specs.Tables.{fieldCount, fieldType}
 use Rattle.tables.proofs.Laws.{count-most}
 use Rattle.records.specs.Records.{recordFields, field, typeIn, fieldAmong, fieldsAt, FieldsPlaced}
 use Rattle.records.proofs.Laws.{among-is}
 use Rattle.format.specs.Format.{isPrintable, someField, unfilled}
-use Rattle.leading_bytes.specs.declared.Reading.{Reading}
+use Rattle.readings.specs.declared.Reading.{Reading}
 use Rattle.readings.specs.Readings.{FieldRead}
 use Rattle.codes_and_rows.specs.Fields.{fieldAfter, NumbersRead}
 use Rattle.codes_and_rows.proofs.Texts.{Printable, printable-line}

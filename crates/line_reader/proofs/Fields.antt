@@ -21,14 +21,14 @@ use Rattle.lists.specs.First.{isByte}
 use Rattle.lists.proofs.First.{first-le}
 use Rattle.lists.proofs.Parts.{part-length}
 use Rattle.lists.proofs.Table.{every-at}
-use Rattle.text.specs.Text.{cut, fieldsOf, part, At}
-use Rattle.text.proofs.Cut.{fields-more, fields-last}
+use Rattle.records.specs.Text.{cut, fieldsOf, part, At}
+use Rattle.records.proofs.Cut.{fields-more, fields-last}
 use Rattle.tables.specs.Tables.{fieldType, joined}
 use Rattle.tables.proofs.Laws.{joined-at}
-use Rattle.field_types.specs.Codes.{codeRows, typeOfCode}
-use Rattle.field_types.proofs.Laws.{row-type, codes-long}
-use Rattle.leading_bytes.specs.declared.Reading.{Reading}
-use Rattle.leading_bytes.specs.LeadingBytes.{fieldEnd, leadingField}
+use Rattle.tables.specs.Codes.{codeRows, typeOfCode}
+use Rattle.tables.proofs.FieldCodes.{row-type, codes-long}
+use Rattle.readings.specs.declared.Reading.{Reading}
+use Rattle.readings.specs.LeadingBytes.{fieldEnd, leadingField}
 use Rattle.readings.specs.Readings.{isNarrow, FieldRead}
 use Rattle.codes_and_rows.specs.Fields.{FieldFits, fieldAfter}
 use Rattle.line_reader.specs.LineReader.{restAt, ReadTo}

@@ -17,7 +17,7 @@ use Rattle.lists.specs.Below.{someBelow}
 use Rattle.lists.specs.First.{firstWhere, isByte}
 use Rattle.lists.proofs.AllBelow.{at-below}
 use Rattle.lists.proofs.Below.{some-same}
-use Rattle.types.specs.Types.{FH, typeNamed, typeLetters, letters}
+use Rattle.tables.specs.Types.{FH, typeNamed, typeLetters, letters}
 use Rattle.tables.specs.Tables.{isMandatory, markRows, joined}
 use Rattle.tables.proofs.Laws.{marks-long, joined-at, row-mark}
 use Rattle.records.specs.Records.{recordFields, typeIn, field}

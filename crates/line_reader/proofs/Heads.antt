@@ -15,14 +15,14 @@ use lib.ListN.{length, getD, set, length-set}
 use lib.Seq.{getD-set-same, getD-set-other}
 use Rattle.lists.proofs.AllBelow.{at-below}
 use Rattle.lists.proofs.Table.{every-at}
-use Rattle.text.specs.Text.{part, At}
-use Rattle.types.specs.Types.{typeNamed}
+use Rattle.records.specs.Text.{part, At}
+use Rattle.tables.specs.Types.{typeNamed}
 use Rattle.fields.specs.Fields.{fitsType}
 use Rattle.fields.specs.declared.FieldType.the-variants.{RecordId, Char}
 use Rattle.tables.specs.Tables.{fieldCounts, fieldCount, fieldType}
-use Rattle.leading_bytes.specs.declared.Reading.{Reading}
-use Rattle.leading_bytes.specs.LeadingBytes.{leadingField}
-use Rattle.leading_bytes.proofs.Ends.{field-length}
+use Rattle.readings.specs.declared.Reading.{Reading}
+use Rattle.readings.specs.LeadingBytes.{leadingField}
+use Rattle.readings.proofs.Ends.{field-length}
 use Rattle.readings.specs.Readings.{FieldRead}
 use Rattle.codes_and_rows.specs.Fields.{fieldAfter}
 use Rattle.line_reader.specs.declared.Head.{Head}

@@ -19,8 +19,8 @@ use lib.Dec.{eqb, leb}
 use lib.ListN.{length, getD, List·getD-eq-default}
 use Rattle.lists.specs.Below.{firstBelow, someBelow}
 use Rattle.lists.proofs.Below.{first-holds, first-least, first-is, none-below, none-is-end, some-is, none-some}
-use Rattle.text.specs.Text.{fieldsOf}
-use Rattle.types.specs.Types.{typeNamed}
+use Rattle.records.specs.Text.{fieldsOf}
+use Rattle.tables.specs.Types.{typeNamed}
 use Rattle.fields.specs.Fields.{fitsType}
 use Rattle.fields.specs.declared.FieldType.{FieldType}
 use Rattle.tables.specs.Tables.{fieldCount, fieldType}

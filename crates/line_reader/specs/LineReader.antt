@@ -8,8 +8,8 @@ use mathlib.Core.Bool.{Bool, cond, not, _&&_, _||_}
 use lib.ListN.{length, drop, getD}
 use lib.Dec.{eqb, leb}
 use Rattle.lists.specs.Below.{firstBelow, someBelow}
-use Rattle.text.specs.Text.{cut, fieldsOf, part, At}
-use Rattle.types.specs.Types.{FH, typeNamed}
+use Rattle.records.specs.Text.{cut, fieldsOf, part, At}
+use Rattle.tables.specs.Types.{FH, typeNamed}
 use Rattle.records.specs.Records.{field, typeIn}
 use Rattle.tables.specs.Tables.{isMandatory}
 use Rattle.format.specs.Format.{lineAt, isEmpty, unformatted, someField, unfit, firstUnfilled, firstMiscoded}

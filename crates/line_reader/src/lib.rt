@@ -7,11 +7,11 @@ ghost use lib.ListN.{length};
 ghost use Rattle.lists.specs.Bytes.{sameBytes};
 ghost use Rattle.lists.specs.Written.{written};
 ghost use Rattle.calendar.specs.Calendar.{firstDays};
-ghost use Rattle.text.specs.Text.{linesOf, part, Placed};
+ghost use Rattle.records.specs.Text.{linesOf, part, Placed};
 ghost use Rattle.columns.specs.Columns.{Room, ColumnsRead};
 ghost use Rattle.columns.specs.Rows.{columnFields};
 ghost use Rattle.tables.specs.Tables.{markRows, joined};
-ghost use Rattle.field_types.specs.Codes.{codeRows};
+ghost use Rattle.tables.specs.Codes.{codeRows};
 ghost use Rattle.records.specs.Records.{fieldAmong, fieldsAt, FieldsPlaced};
 ghost use Rattle.format.specs.Format.{lineAt, unformatted, firstUnformatted};
 ghost use Rattle.line_reader.specs.LineReader.{unread, firstUnread, headFilled, LineLent, HeadRead, AllRead};
@@ -97,7 +97,7 @@ fn read_head(file: &[u8], a: usize, e: usize, numbers: &mut [u64; 24]) -> Head
         return no_head();
     }
     let type_end = d + type_len;
-    let record_type = types::type_named(&file[d..type_end]);
+    let record_type = tables::type_named(&file[d..type_end]);
     let filled = head_filled(record_type, id_len, parent_len);
     numbers[1] = id.number;
     numbers[2] = parent.number;
@@ -248,7 +248,7 @@ pub fn read_lines(
     ensures { λ r. ⌜ (r .stopped ≡ length (linesOf (now (file .entry))) → ColumnsRead (linesOf (now (file .entry))) (now (words .exit)) (now (charges .exit)) (now (usages .exit))) ⌝ }
 {
     let days = calendar::first_days();
-    let codes = field_types::codes();
+    let codes = tables::codes();
     let marks = tables::marks();
     let fields = columns::column_fields();
     read_lines_lent(

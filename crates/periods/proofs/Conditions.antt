@@ -14,8 +14,8 @@ use lib.Dec.{leb}
 use lib.ListN.{length}
 use Rattle.lists.specs.Below.{someBelow}
 use Rattle.lists.proofs.Below.{some-none, none-some}
-use Rattle.types.specs.Types.{SH}
-use Rattle.groups.specs.Groups.{at}
+use Rattle.tables.specs.Types.{SH}
+use Rattle.tables.specs.Groups.{at}
 use Rattle.periods.specs.Periods.{PeriodColumns, isOriginal, chooses, shareDay, overlaps}
 
 module _ (c : PeriodColumns) where

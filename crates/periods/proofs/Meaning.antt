@@ -14,9 +14,9 @@ use lib.Dec.{eqb, leb, ltb}
 use lib.ListN.{length}
 use Rattle.lists.specs.Below.{firstBelow, someBelow}
 use Rattle.lists.proofs.Below.{none-below, none-is-end, some-holds, some-is}
-use Rattle.types.specs.Types.{SH, TH}
-use Rattle.groups.specs.Groups.{at}
-use Rattle.chosen_periods.specs.Chosen.{Chooses as ChosenIn}
+use Rattle.tables.specs.Types.{SH, TH}
+use Rattle.tables.specs.Groups.{at}
+use Rattle.periods.specs.Chosen.{Chooses as ChosenIn}
 use Rattle.periods.specs.Periods.{isReversed, firstReversed, PeriodColumns, isOriginal, chooses, shareDay, overlaps, firstOverlapping}
 use Rattle.periods.proofs.Conditions.{no-header, header-of-another-site, header-without-start, header-without-end, starts-before-header, ends-after-header, chooses-by-end, different-sites, first-no-original, second-no-original, no-shared-day, overlaps-by-header}
 

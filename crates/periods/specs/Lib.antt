@@ -1,1 +1,4 @@
+pub mod Chosen
+pub mod Originals
 pub mod Periods
+pub mod Spans

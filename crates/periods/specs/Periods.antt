@@ -7,8 +7,8 @@ use mathlib.Core.Bool.{Bool, not, _&&_}
 use lib.ListN.{length, getD}
 use lib.Dec.{eqb, leb, ltb}
 use Rattle.lists.specs.Below.{firstBelow, someBelow}
-use Rattle.types.specs.Types.{SH, TH}
-use Rattle.groups.specs.Groups.{at}
+use Rattle.tables.specs.Types.{SH, TH}
+use Rattle.tables.specs.Groups.{at}
 
 -- ---- 14: "no start date is after its end date, where both are filled"
 unfoldable pub isReversed : List ℕ → List ℕ → ℕ → Bool

@@ -14,11 +14,11 @@ use Rattle.amounts.specs.Amounts.{amountOf}
 use Rattle.fields.specs.declared.FieldType.{FieldType}
 use Rattle.fields.specs.declared.FieldType.the-variants.{RecordId, Digits, Number, Date, DateTime, Char, Varchar}
 use Rattle.fields.specs.Fields.{fitsFilled, fitsType}
-use Rattle.leading_bytes.specs.declared.Reading.{Reading}
-use Rattle.leading_bytes.specs.LeadingBytes.{fieldEnd, Ends}
-use Rattle.leading_bytes.proofs.Ends.{ends-there}
-use Rattle.leading_bytes.proofs.Texts.{packed-none}
-use Rattle.amount_readings.proofs.Magnitudes.{without-minus}
+use Rattle.readings.specs.declared.Reading.{Reading}
+use Rattle.readings.specs.LeadingBytes.{fieldEnd, Ends}
+use Rattle.readings.proofs.Ends.{ends-there}
+use Rattle.readings.proofs.LeadingTexts.{packed-none}
+use Rattle.readings.proofs.Magnitudes.{without-minus}
 use Rattle.readings.specs.Readings.{Says, FieldRead}
 
 -- ---- what fits

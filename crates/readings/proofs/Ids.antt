@@ -23,11 +23,11 @@ use Rattle.fields.specs.declared.FieldType.{FieldType}
 use Rattle.fields.specs.declared.FieldType.the-variants.{RecordId, Digits, Date}
 use Rattle.fields.specs.Fields.{isRead, isDay, fitsFilled, fitsType}
 use Rattle.columns.specs.Columns.{heldNumber, heldDay}
-use Rattle.leading_bytes.specs.declared.Run.{Run}
-use Rattle.leading_bytes.specs.declared.Reading.{Reading}
-use Rattle.leading_bytes.specs.LeadingBytes.{fieldEnd, leadingField, Ends, DigitsRead}
-use Rattle.leading_bytes.proofs.Ends.{field-length, ends-there, digits-before}
-use Rattle.leading_bytes.proofs.Runs.{run-bound}
+use Rattle.readings.specs.declared.Run.{Run}
+use Rattle.readings.specs.declared.Reading.{Reading}
+use Rattle.readings.specs.LeadingBytes.{fieldEnd, leadingField, Ends, DigitsRead}
+use Rattle.readings.proofs.Ends.{field-length, ends-there, digits-before}
+use Rattle.readings.proofs.Runs.{run-bound}
 use Rattle.readings.specs.Readings.{Says, FieldRead}
 use Rattle.readings.proofs.Fields.{fits-empty, fits-filled, empty-says, field-read}
 

@@ -1,5 +1,10 @@
+pub mod AmountsMissed
+pub mod Ends
 pub mod Fields
 pub mod Ids
-pub mod Texts
-pub mod Numbers
+pub mod LeadingTexts
+pub mod Magnitudes
 pub mod Missed
+pub mod Numbers
+pub mod Runs
+pub mod Texts

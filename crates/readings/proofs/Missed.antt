@@ -28,10 +28,10 @@ use Rattle.amounts.proofs.Signs.{number-minus, number-plain}
 use Rattle.fields.specs.declared.FieldType.{FieldType}
 use Rattle.fields.specs.declared.FieldType.the-variants.{RecordId, Digits, Number, Date, Char, Varchar}
 use Rattle.fields.specs.Fields.{isRead, isDay, fitsFilled, fitsType}
-use Rattle.leading_bytes.specs.declared.Run.{Run}
-use Rattle.leading_bytes.specs.LeadingBytes.{fieldEnd, leadingField, Ends, AllRead, TextRead}
-use Rattle.leading_bytes.proofs.Ends.{field-length, end-ends, digits-before}
-use Rattle.leading_bytes.proofs.Runs.{run-longest}
+use Rattle.readings.specs.declared.Run.{Run}
+use Rattle.readings.specs.LeadingBytes.{fieldEnd, leadingField, Ends, AllRead, TextRead}
+use Rattle.readings.proofs.Ends.{field-length, end-ends, digits-before}
+use Rattle.readings.proofs.Runs.{run-longest}
 use Rattle.readings.proofs.Fields.{fits-filled}
 
 pub fits-or : (t : FieldType) (f : List ℕ) → fitsType t f ≡ true → (length f ≡ 0) ⊎ (fitsFilled t f ≡ true)

@@ -13,11 +13,11 @@ use Rattle.amounts.specs.Amounts.{isUnsigned, unitsOf, magnitudeOf}
 use Rattle.amounts.proofs.Shape.{point-inside, unsigned-say}
 use Rattle.amounts.proofs.Signs.{number-minus, number-plain, amount-minus, amount-plain}
 use Rattle.fields.specs.declared.FieldType.the-variants.{Number}
-use Rattle.leading_bytes.specs.declared.Reading.{Reading}
-use Rattle.leading_bytes.specs.LeadingBytes.{fieldEnd, leadingField}
-use Rattle.leading_bytes.proofs.Ends.{field-length}
-use Rattle.amount_readings.specs.AmountReadings.{MagnitudeRead, NegativeRead}
-use Rattle.amount_readings.proofs.Magnitudes.{with-minus, without-minus}
+use Rattle.readings.specs.declared.Reading.{Reading}
+use Rattle.readings.specs.LeadingBytes.{fieldEnd, leadingField}
+use Rattle.readings.proofs.Ends.{field-length}
+use Rattle.readings.specs.AmountReadings.{MagnitudeRead, NegativeRead}
+use Rattle.readings.proofs.Magnitudes.{with-minus, without-minus}
 use Rattle.readings.specs.Readings.{Says, FieldRead}
 use Rattle.readings.proofs.Fields.{fits-filled}
 

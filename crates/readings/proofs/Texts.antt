@@ -12,10 +12,10 @@ use lib.Seq.{length-take-le}
 use Rattle.lists.specs.First.{isByte}
 use Rattle.lists.proofs.First.{first-le}
 use Rattle.fields.specs.declared.FieldType.the-variants.{Char, Varchar}
-use Rattle.leading_bytes.specs.declared.Run.{Run}
-use Rattle.leading_bytes.specs.declared.Reading.{Reading}
-use Rattle.leading_bytes.specs.LeadingBytes.{fieldEnd, Ends, TextRead}
-use Rattle.leading_bytes.proofs.Ends.{ends-there}
+use Rattle.readings.specs.declared.Run.{Run}
+use Rattle.readings.specs.declared.Reading.{Reading}
+use Rattle.readings.specs.LeadingBytes.{fieldEnd, Ends, TextRead}
+use Rattle.readings.proofs.Ends.{ends-there}
 use Rattle.readings.specs.Readings.{Says, FieldRead}
 use Rattle.readings.proofs.Fields.{fits-filled, field-read}
 

@@ -1,1 +1,3 @@
+pub mod AmountReadings
+pub mod LeadingBytes
 pub mod Readings

@@ -12,9 +12,9 @@ use Rattle.fields.specs.declared.FieldType.{FieldType}
 use Rattle.fields.specs.declared.FieldType.the-variants.{RecordId, Digits, Number, Date, DateTime, Char, Varchar}
 use Rattle.fields.specs.Fields.{fitsType}
 use Rattle.columns.specs.Columns.{heldNumber, heldDay}
-use Rattle.leading_bytes.specs.declared.Reading.{Reading}
-use Rattle.leading_bytes.specs.LeadingBytes.{fieldEnd, leadingField, packed}
-use Rattle.amount_readings.specs.AmountReadings.{signedOf}
+use Rattle.readings.specs.declared.Reading.{Reading}
+use Rattle.readings.specs.LeadingBytes.{fieldEnd, leadingField, packed}
+use Rattle.readings.specs.AmountReadings.{signedOf}
 
 -- the number n says what stands in the field f of a type. A number that no test reads says nothing.
 unfoldable pub Says : FieldType → List ℕ → ℕ → Type 0

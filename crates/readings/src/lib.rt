@@ -1,18 +1,245 @@
 // Readings: the field at the start of a line's bytes, read in one pass: where it ends, whether it fits its type, and what it says as one number.
 // A reading is certain: it fits where the field does, and where the field does not fit it does not.
 ghost use mathlib.Core.Path.{_≡_};
-ghost use mathlib.Core.Bool.{true};
-ghost use Prim.Native.Nat.{_-_, _≤_};
+ghost use mathlib.Core.Bool.{true, false};
+ghost use Prim.Native.Nat.{ℕ, _≤_, _<_, _+_, _*_, _-_, _^_};
+ghost use lib.ListN.{length, getD};
+ghost use Rattle.readings.specs.LeadingBytes.{Ends, DigitsRead, AllRead, TextRead};
+ghost use Rattle.readings.specs.AmountReadings.{signedOf, WholeRead, MagnitudeTold, NegativeTold};
 ghost use Rattle.calendar.specs.Calendar.{firstDays};
 ghost use Rattle.fields.specs.declared.FieldType.the-variants.{RecordId, Digits, Number, Date, DateTime, Char, Varchar};
-ghost use Rattle.field_types.specs.Codes.{typeOfCode};
-ghost use Rattle.leading_bytes.specs.LeadingBytes.{AllRead};
+ghost use Rattle.tables.specs.Codes.{typeOfCode};
 ghost use Rattle.readings.specs.Readings.{FieldTold, isNarrow};
 use calendar::Day;
-use leading_bytes::Reading;
-use leading_bytes::Run;
-use leading_bytes::misses;
-use leading_bytes::reads;
+
+// The bytes that were read, and the number that they write.
+pub struct Run {
+    pub len: usize,
+    pub value: u64,
+}
+
+// Whether a field fits its type, and then where it ends and what it says as one number. Where it doesn't fit, nothing is known.
+pub struct Reading {
+    pub fits: bool,
+    pub len: usize,
+    pub number: u64,
+}
+
+fn no_digits() -> Run
+    ensures { λ r. ⌜ (r .len ≡ 0) × (r .value ≡ 0) ⌝ }
+{
+    Run { len: 0, value: 0 }
+}
+
+// Whether the first eight bytes of s are digits. There is no early exit, so that they are compared at once.
+fn begins_with_eight(s: &[u8]) -> bool
+    requires { ⌜ 8 ≤ length (now s) ⌝ }
+    ensures { λ r. ⌜ (r ≡ true → (k : ℕ) → k < 8 → (48 ≤ getD (now (s .entry)) k 0) × (getD (now (s .entry)) k 0 ≤ 57)) ⌝ }
+{
+    let mut all = true;
+    let mut i: usize = 0;
+    while i < 8 {
+        if 9 < std::num::wrapping_sub_u8(s[i], 48) {
+            all = false;
+        }
+        i += 1;
+    }
+    all
+}
+
+// The first eight digits of s, where it begins with so many.
+fn eight_digits(s: &[u8]) -> Run
+    requires { ⌜ 8 ≤ length (now s) ⌝ }
+    ensures { λ r. ⌜ DigitsRead (now (s .entry)) r ⌝ }
+{
+    if !begins_with_eight(s) {
+        return no_digits();
+    }
+    let mut value: u64 = 0;
+    let mut i: usize = 0;
+    while i < 8 {
+        value = value * 10 + (lists::wide(s[i]) - 48);
+        i += 1;
+    }
+    Run { len: 8, value }
+}
+
+// The digits at the start of s, at most 15, of which some are read.
+fn more_digits(s: &[u8], run: Run) -> Run
+    requires { ⌜ DigitsRead (now s) run ⌝ }
+    ensures { λ r. ⌜ AllRead (now (s .entry)) r ⌝ }
+{
+    let n = if s.len() < 15 { s.len() } else { 15 };
+    let mut value = run.value;
+    let mut len = run.len;
+    while len < n {
+        let digit = std::num::wrapping_sub_u64(lists::wide(s[len]), 48);
+        if 9 < digit {
+            return Run { len, value };
+        }
+        value = value * 10 + digit;
+        len += 1;
+    }
+    Run { len, value }
+}
+
+// The digits at the start of s, at most 15.
+pub fn leading_digits(s: &[u8]) -> Run
+    ensures { λ r. ⌜ AllRead (now (s .entry)) r ⌝ }
+{
+    more_digits(s, no_digits())
+}
+
+// What leading_digits says, where there are likely eight digits or more.
+pub fn many_leading_digits(s: &[u8]) -> Run
+    ensures { λ r. ⌜ AllRead (now (s .entry)) r ⌝ }
+{
+    if s.len() < 8 {
+        return leading_digits(s);
+    }
+    more_digits(s, eight_digits(s))
+}
+
+// The bytes at the start of s before a comma, at most 4.
+pub fn leading_text(s: &[u8]) -> Run
+    ensures { λ r. ⌜ TextRead (now (s .entry)) r ⌝ }
+{
+    let n = if s.len() < 4 { s.len() } else { 4 };
+    let mut value: u64 = 0;
+    let mut len: usize = 0;
+    while len < n {
+        let b = s[len];
+        if b == 44 {
+            return Run { len, value };
+        }
+        value = value * 256 + lists::wide(b);
+        len += 1;
+    }
+    Run { len, value }
+}
+
+// Whether the field at the start of s can end at k.
+pub fn ends_at(s: &[u8], k: usize) -> bool
+    requires { ⌜ k ≤ length (now s) ⌝ }
+    ensures { λ r. ⌜ (r ≡ true → Ends (now (s .entry)) k) × (r ≡ false → Ends (now (s .entry)) k → ⊥) ⌝ }
+{
+    if k == s.len() {
+        return true;
+    }
+    s[k] == 44
+}
+
+// The byte of s at k, or a comma where s ends before it.
+pub fn next_byte(s: &[u8], k: usize) -> u8
+    ensures { λ r. ⌜ r ≡ getD (now (s .entry)) k 44 ⌝ }
+{
+    if s.len() <= k {
+        return 44;
+    }
+    s[k]
+}
+
+pub fn misses() -> Reading
+    ensures { λ r. ⌜ r .fits ≡ false ⌝ }
+{
+    Reading {
+        fits: false,
+        len: 0,
+        number: 0,
+    }
+}
+
+pub fn reads(len: usize, number: u64) -> Reading
+    ensures { λ r. ⌜ (r .fits ≡ true) × (r .len ≡ len) × (r .number ≡ number) ⌝ }
+{
+    Reading {
+        fits: true,
+        len,
+        number,
+    }
+}
+
+// The units of an amount: its whole part, and the number that the q digits after its point write. Where it is too wide for an amount, 0.
+fn scaled(w: u64, f: u64, q: usize, whole: usize, places: usize) -> u64
+    requires { ⌜ (w < 10 ^ whole) × (f < 10 ^ q) × (q ≤ places) ⌝ }
+    ensures { λ r. ⌜ (whole + places ≤ 15 → r ≡ w * 10 ^ places + f * 10 ^ (places - q)) × (r < 10 ^ 15) ⌝ }
+{
+    if 15 < whole {
+        return 0;
+    }
+    if 15 - whole < places {
+        return 0;
+    }
+    w * amounts::ten_to(places) + f * amounts::ten_to(places - q)
+}
+
+// The whole part of an amount, which ends the field, or the whole part and what stands after the point at p.
+fn read_places(s: &[u8], w: u64, p: usize, whole: usize, places: usize) -> Reading
+    requires { ⌜ WholeRead (now s) w p whole × (whole ≤ 15) × (places ≤ 15) ⌝ }
+    ensures { λ r. ⌜ MagnitudeTold whole places (now (s .entry)) r ⌝ }
+{
+    let next = next_byte(s, p);
+    if next == 44 {
+        return reads(p, scaled(w, 0, 0, whole, places));
+    }
+    if next != 46 {
+        return misses();
+    }
+    let run = leading_digits(&s[p + 1..]);
+    let q = run.len;
+    if q < 1 {
+        return misses();
+    }
+    if places < q {
+        return misses();
+    }
+    if !ends_at(s, p + 1 + q) {
+        return misses();
+    }
+    reads(p + 1 + q, scaled(w, run.value, q, whole, places))
+}
+
+// An amount without its sign.
+pub fn read_magnitude(s: &[u8], whole: usize, places: usize) -> Reading
+    requires { ⌜ (whole ≤ 15) × (places ≤ 15) ⌝ }
+    ensures { λ r. ⌜ MagnitudeTold whole places (now (s .entry)) r ⌝ }
+{
+    let run = leading_digits(s);
+    let p = run.len;
+    if p < 1 {
+        return misses();
+    }
+    if whole < p {
+        return misses();
+    }
+    read_places(s, run.value, p, whole, places)
+}
+
+// An amount after its minus.
+pub fn read_negative(s: &[u8], whole: usize, places: usize) -> Reading
+    requires { ⌜ (0 < length (now s)) × (getD (now s) 0 0 ≡ 45) × (whole ≤ 15) × (places ≤ 15) ⌝ }
+    ensures { λ r. ⌜ NegativeTold whole places (now (s .entry)) r ⌝ }
+{
+    let size = read_magnitude(&s[1..], whole, places);
+    let fits = size.fits;
+    let len = size.len;
+    let number = size.number;
+    if !fits {
+        return misses();
+    }
+    reads(len + 1, number * 2 + 1)
+}
+
+// The amount that a number says.
+pub fn signed(number: u64) -> i64
+    ensures { λ r. ⌜ r ≡ signedOf number ⌝ }
+{
+    let size = (number / 2) as i64;
+    if number % 2 == 1 {
+        return 0 - size;
+    }
+    size
+}
 
 // The ID that some digits at the start of s are, where they end the field.
 fn id_of(s: &[u8], run: Run) -> Reading
@@ -20,7 +247,7 @@ fn id_of(s: &[u8], run: Run) -> Reading
     ensures { λ r. ⌜ FieldTold RecordId (now (s .entry)) r ⌝ }
 {
     let len = run.len;
-    if !leading_bytes::ends_at(s, len) {
+    if !ends_at(s, len) {
         return misses();
     }
     if len == 0 {
@@ -33,14 +260,14 @@ fn id_of(s: &[u8], run: Run) -> Reading
 pub fn read_id(s: &[u8]) -> Reading
     ensures { λ r. ⌜ FieldTold RecordId (now (s .entry)) r ⌝ }
 {
-    id_of(s, leading_bytes::leading_digits(s))
+    id_of(s, leading_digits(s))
 }
 
 // The same, where it is likely to have eight digits or more.
 fn read_long_id(s: &[u8]) -> Reading
     ensures { λ r. ⌜ FieldTold RecordId (now (s .entry)) r ⌝ }
 {
-    id_of(s, leading_bytes::many_leading_digits(s))
+    id_of(s, many_leading_digits(s))
 }
 
 // An ID of just so many digits.
@@ -96,7 +323,7 @@ fn read_number(s: &[u8], precision: usize, places: usize) -> Reading
     requires { ⌜ (precision - places ≤ 15) × (places ≤ 15) ⌝ }
     ensures { λ r. ⌜ FieldTold (Number precision places) (now (s .entry)) r ⌝ }
 {
-    let first = leading_bytes::next_byte(s, 0);
+    let first = next_byte(s, 0);
     if first == 44 {
         return reads(0, 0);
     }
@@ -104,9 +331,9 @@ fn read_number(s: &[u8], precision: usize, places: usize) -> Reading
         return misses();
     }
     if first == 45 {
-        return amount_readings::read_negative(s, precision - places, places);
+        return read_negative(s, precision - places, places);
     }
-    let size = amount_readings::read_magnitude(s, precision - places, places);
+    let size = read_magnitude(s, precision - places, places);
     let fits = size.fits;
     let len = size.len;
     let number = size.number;
@@ -120,9 +347,9 @@ pub fn read_char(s: &[u8], width: usize) -> Reading
     requires { ⌜ width ≤ 4 ⌝ }
     ensures { λ r. ⌜ FieldTold (Char width) (now (s .entry)) r ⌝ }
 {
-    let run = leading_bytes::leading_text(s);
+    let run = leading_text(s);
     let len = run.len;
-    if !leading_bytes::ends_at(s, len) {
+    if !ends_at(s, len) {
         return misses();
     }
     if len == 0 {
@@ -137,9 +364,9 @@ pub fn read_char(s: &[u8], width: usize) -> Reading
 fn read_varchar(s: &[u8], width: usize) -> Reading
     ensures { λ r. ⌜ FieldTold (Varchar width) (now (s .entry)) r ⌝ }
 {
-    let run = leading_bytes::leading_text(s);
+    let run = leading_text(s);
     let short = run.len;
-    if leading_bytes::ends_at(s, short) {
+    if ends_at(s, short) {
         if short <= width {
             return reads(short, run.value);
         }

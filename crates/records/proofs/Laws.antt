@@ -19,9 +19,9 @@ use borrow.Author.Tests.{le-leb, lt-leb, lt-ltb, le-ltb}
 use lib.Dec.{ltb}
 use lib.ListN.{length, getD, take, length-take, List·getD-eq-default}
 use lib.Seq.{getD-take}
-use Rattle.types.specs.Types.{typeNamed}
-use Rattle.text.specs.Text.{part, fieldsOf, Placed, At}
-use Rattle.text.proofs.Placed.{placed-at}
+use Rattle.tables.specs.Types.{typeNamed}
+use Rattle.records.specs.Text.{part, fieldsOf, Placed, At}
+use Rattle.records.proofs.Placed.{placed-at}
 use Rattle.records.specs.Records.{recordFields, field, numberAmong, fieldAmong, fieldsAt, FieldsPlaced, typeIn, RecordFound}
 use Rattle.records.specs.declared.Record.{Record}
 

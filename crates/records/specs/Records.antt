@@ -6,8 +6,8 @@ use mathlib.Core.List.{List, [], _∷_}
 use mathlib.Core.Bool.{cond}
 use lib.ListN.{length, getD, take}
 use lib.Dec.{leb}
-use Rattle.types.specs.Types.{typeNamed}
-use Rattle.text.specs.Text.{fieldsOf, parts, Placed}
+use Rattle.tables.specs.Types.{typeNamed}
+use Rattle.records.specs.Text.{fieldsOf, parts, Placed}
 use Rattle.records.specs.declared.Record.{Record}
 
 -- ---- fields

@@ -1,12 +1,55 @@
-// Records: a line's type and the places of its fields.
+// The lines of a file, and records: a line's type and the places of its fields.
 ghost use mathlib.Core.Path.{_≡_};
-ghost use mathlib.Core.Bool.{cond};
 ghost use Prim.Native.Nat.{_≤_, _<_};
 ghost use lib.ListN.{length, take};
+ghost use Rattle.records.specs.Text.{LineEnd, LinesFound, part, At};
+ghost use mathlib.Core.Bool.{cond};
 ghost use lib.Dec.{ltb};
-ghost use Rattle.text.specs.Text.{part, At};
-ghost use Rattle.types.specs.Types.{typeNamed};
+ghost use Rattle.tables.specs.Types.{typeNamed};
 ghost use Rattle.records.specs.Records.{field, numberAmong, fieldAmong, fieldsAt, FieldsPlaced, RecordFound};
+
+pub enum Lines {
+    Count(usize),
+    TooMany,
+}
+
+// The end of the line from a up to e, without a byte 13 where a byte 10 stands at e.
+fn line_end(file: &[u8], a: usize, e: usize) -> usize
+    requires { ⌜ (a ≤ e) × (e ≤ length (now file)) ⌝ }
+    ensures { λ r. ⌜ LineEnd (now (file .entry)) a e r ⌝ }
+{
+    if e < file.len() {
+        if a < e {
+            if file[e - 1] == 13 {
+                return e - 1;
+            }
+        }
+    }
+    e
+}
+
+// The places of the lines of a file, where there is room for all of them.
+pub fn find_lines(file: &[u8], starts: &mut [usize], ends: &mut [usize]) -> Lines
+    ensures { λ r. ⌜ LinesFound (now (file .entry)) (now (starts .exit)) (now (ends .exit)) r ⌝ }
+{
+    let mut n: usize = 0;
+    let mut a: usize = 0;
+    while a < file.len() {
+        if starts.len() <= n {
+            return Lines::TooMany;
+        }
+        if ends.len() <= n {
+            return Lines::TooMany;
+        }
+        let e = a + lists::find_far(&file[a..], 10);
+        let stop = line_end(file, a, e);
+        starts[n] = a;
+        ends[n] = stop;
+        n += 1;
+        a = e + 1;
+    }
+    Lines::Count(n)
+}
 
 // A record's type is its place among FH, SH, TH, DU, DD, DM, CH, OC, FT, or 9. A line of more than 24 fields has type 9 and count 0.
 pub struct Record {
@@ -24,7 +67,7 @@ fn third(file: &[u8], n: usize, a: usize, e: usize) -> u64
     if n < 3 {
         return 9;
     }
-    types::type_named(&file[a..e])
+    tables::type_named(&file[a..e])
 }
 
 // The record of the line from start to end.

@@ -2,4 +2,5 @@ pub mod Columns
 pub mod Joined
 pub mod Outcomes
 pub mod Refusals
+pub mod RejectionCodes
 pub mod Stages

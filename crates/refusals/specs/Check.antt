@@ -8,10 +8,10 @@ use lib.ListN.{length, getD}
 use lib.Dec.{eqb, leb, ltb}
 use lib.IntN.{ℤ}
 use Rattle.digits.specs.Digits.{allDigits}
-use Rattle.text.specs.Text.{linesOf, Placed}
-use Rattle.types.specs.Types.{SH, TH, DU, CH, OC, FT}
+use Rattle.records.specs.Text.{linesOf, Placed}
+use Rattle.tables.specs.Types.{SH, TH, DU, CH, OC, FT}
 use Rattle.columns.specs.Columns.{numberIn, chargeIn, usageIn, recordType, recordId, parentId, site, startDay, endDay, cancel, Room, ColumnsRead}
-use Rattle.groups.specs.Groups.{parentPlaces, picked, places, ones}
+use Rattle.tables.specs.Groups.{parentPlaces, picked, places, ones}
 use Rattle.format.specs.Format.{lineAt, firstUnformatted, firstUnfit, firstMisplaced, firstUnfilled, firstMiscoded}
 use Rattle.identity.specs.Identity.{firstRepeated, firstUnlike}
 use Rattle.headers.specs.Headers.{isOurs, isListed, countsRecords}

@@ -1,14 +1,15 @@
-// When a ledger is sound, in specs/: document 01's sentences. Here are those that look at the sizes and at one entry, each a function of its own.
+// When a ledger is sound, in specs/: document 01's sentences. Here are those that look at the sizes, at one entry, and at a cancel and the entry that it
+// cancels, each a function of its own.
 // `sound_ledgers::is_sound` asks them all.
 ghost use mathlib.Core.Path.{_≡_};
 ghost use mathlib.Core.Bool.{not, cond, _||_, _&&_};
 ghost use Prim.Native.Nat.{_<_, _^_};
 ghost use lib.Dec.{eqb, ltb};
-ghost use lib.IntN.{natAbs};
+ghost use lib.IntN.{natAbs, _+ℤ_};
 ghost use Rattle.entries.specs.Entries.{entryOf, isPeriod};
 ghost use Rattle.entries.specs.Words.{RoomFor, entriesOf};
 ghost use Rattle.soundness.specs.Room.{readCount};
-ghost use Rattle.soundness.specs.Sound.{sizesFit, digitsFit, within, rangesFit, isZero, lacksFit, entryFits, isLivePeriod};
+ghost use Rattle.soundness.specs.Sound.{sizesFit, digitsFit, within, rangesFit, isZero, lacksFit, entryFits, isLivePeriod, sameSubject, isNamed, opposite};
 use entries::Entry;
 
 // The entry at a place in use.
@@ -40,7 +41,7 @@ pub fn read_count(places: usize, used: usize) -> usize
 fn amount_fits(amount: i64) -> bool
     ensures { λ r. ⌜ r ≡ ltb (natAbs amount) (10 ^ 15) ⌝ }
 {
-    units::size(amount) < 1000000000000000
+    amounts::size(amount) < 1000000000000000
 }
 
 // "senders have at most 4 digits, sites 13, IDs and amounts 15"
@@ -87,7 +88,7 @@ fn ranges_fit(e: Entry) -> bool
 fn period_lacks_fit(e: Entry) -> bool
     ensures { λ r. ⌜ r ≡ (isPeriod e || (eqb (e .start) 0 && eqb (e .end) 0 && isZero (e .usage))) ⌝ }
 {
-    (e.kind == 2) | ((e.start == 0) & (e.end == 0) & (units::size(e.usage) == 0))
+    (e.kind == 2) | ((e.start == 0) & (e.end == 0) & (amounts::size(e.usage) == 0))
 }
 
 // A file has no site.
@@ -118,4 +119,59 @@ pub fn is_live_period(e: Entry) -> bool
         return false;
     }
     e.kind == 2
+}
+
+// Alike in what test 39 compares, but for the Record ID.
+pub fn has_same_subject(a: Entry, b: Entry) -> bool
+    ensures { λ r. ⌜ r ≡ sameSubject a b ⌝ }
+{
+    if a.sender != b.sender {
+        return false;
+    }
+    if a.commodity != b.commodity {
+        return false;
+    }
+    if a.kind != b.kind {
+        return false;
+    }
+    if a.site != b.site {
+        return false;
+    }
+    if a.start != b.start {
+        return false;
+    }
+    a.end == b.end
+}
+
+// Whether an entry is cancelled and has what a cancel names.
+pub fn is_named(cancel: Entry, e: Entry) -> bool
+    ensures { λ r. ⌜ r ≡ isNamed cancel e ⌝ }
+{
+    if e.state != 3 {
+        return false;
+    }
+    if e.id != cancel.cancels {
+        return false;
+    }
+    has_same_subject(cancel, e)
+}
+
+// Whether two amounts add up to 0. The least number has no opposite among the numbers of 64 bits.
+fn are_opposite(a: i64, b: i64) -> bool
+    ensures { λ r. ⌜ r ≡ isZero (a +ℤ b) ⌝ }
+{
+    if a == -9223372036854775808 {
+        return false;
+    }
+    0 - a == b
+}
+
+// Test 40's: charge and usage are the opposites.
+pub fn is_opposite(cancel: Entry, e: Entry) -> bool
+    ensures { λ r. ⌜ r ≡ opposite cancel e ⌝ }
+{
+    if !are_opposite(cancel.charge, e.charge) {
+        return false;
+    }
+    are_opposite(cancel.usage, e.usage)
 }

@@ -1,2 +1,5 @@
 pub mod Laws
 pub mod Meaning
+pub mod Running
+pub mod Sites
+pub mod Trailer

@@ -1,2 +1,3 @@
+pub mod SiteTotals
 pub mod Sums
 pub mod Totals

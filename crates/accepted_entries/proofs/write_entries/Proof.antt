@@ -52,8 +52,8 @@ at-most c =
     let s = c .before .before .before .before .before .before .before .before .before .before .before .before .before .before .before in
     omega (arith, c .write-cancels .ensures .0, s .pre .0 .2, s .pre .1 .1 .0 .count, length-split (λ (b : Bill). b .cancel) (fileIn (now (s .args .file)) .bills))
 
-index-requires : tie.Need-index-requires
-index-requires c κs =
+index-sites-requires : tie.Need-index-sites-requires
+index-sites-requires c κs =
     let s = c .before .before .before .before .before .before .before .before .before .before .before .before .before .before .before .before .before .before .before .before .before .before in
     let p = c .before .before .before .before .before .before .before .before .before .before .before .before .before .put in
     let w = c .before .before .before .before .before .before .before .write-cancels in
@@ -67,7 +67,7 @@ write-originals-requires c κs =
     let s = c .before .before .before .before .before .before .before .before .before .before .before .before .before .before .before .before .before .before .before .before .before .before .before .before .before .before .before .before .before .before .before in
     let p = c .before .before .before .before .before .before .before .before .before .before .before .before .before .before .before .before .before .before .before .before .before .before .put in
     let w = c .before .before .before .before .before .before .before .before .before .before .before .before .before .before .before .before .write-cancels in
-    let i = c .before .before .before .before .before .before .before .before .index in (
+    let i = c .before .before .before .before .before .before .before .before .index-sites in (
       (
         room-same (w .kept .0 ∙ p .kept .0) (w .kept .1 .0 ∙ p .kept .1 .0) (s .pre .0 .0),
         chain-room-same (i .kept .1 .1 .1 .0) (i .kept .1 .1 .1 .1 .0) (s .pre .0 .1),
@@ -105,7 +105,7 @@ write-entries-spec =
     (tie.spec
     put-requires
     write-cancels-requires
-    index-requires
+    index-sites-requires
     write-originals-requires
     same-length
     same-length-2

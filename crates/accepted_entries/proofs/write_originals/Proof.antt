@@ -10,7 +10,7 @@ use lib.ListN.{length, take}
 use Rattle.entries.specs.Words.{entriesOf}
 use Rattle.entries.proofs.Words.{length-entries}
 use Rattle.entries.proofs.Room.{room-fewer, room-same}
-use Rattle.periods_by_site.specs.Sited.{BySite}
+use Rattle.used_entries.specs.Sited.{BySite}
 use Rattle.booking.specs.Acceptable.{billAt}
 use Rattle.file_bills.specs.Bills.{fileIn, isCancel}
 use Rattle.accepted_entries.specs.Accepted.{stateAfter}

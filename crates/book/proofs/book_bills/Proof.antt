@@ -5,7 +5,7 @@ use mathlib.Core.List.{List}
 use Prim.Native.Nat.{ℕ}
 use denote.Ref.{now}
 use Rattle.buckets.proofs.Laws.{zeros}
-use Rattle.chains.proofs.Room.{chain-room}
+use Rattle.buckets.proofs.ChainRoom.{chain-room}
 use Rattle.refusals.specs.declared.Outcome.{Outcome}
 use Rattle.refusals.specs.Refusals.{firstRefusal}
 use Rattle.entries.specs.declared.Entry.{Entry}

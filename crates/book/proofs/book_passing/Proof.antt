@@ -1,7 +1,7 @@
 -- `book::book_passing` meets its contract: the file's own entry, its TH and OC, and then Book from them.
 -- Assumes nothing.
 use denote.Ref.{now}
-use Rattle.text.specs.Text.{linesOf}
+use Rattle.records.specs.Text.{linesOf}
 use Rattle.book.proofs.FileBills.{bills-read, sender-own, commodity-own}
 use borrow.Author.Needs.{needs}
 use native.Mathlib.Omega.{arith}

@@ -2,7 +2,7 @@
 -- Assumes nothing.
 use Rattle.codes_and_rows.proofs.CodeFields.{code-fields-small, either-asked, wrong-commodity, wrong-unit, wrong-cancel, last-code}
 use Rattle.codes_and_rows.specs.Numbers.{isEither, unitIf}
-use Rattle.leading_bytes.specs.LeadingBytes.{packed, packedAfter}
+use Rattle.readings.specs.LeadingBytes.{packed, packedAfter}
 use Rattle.format.specs.Format.{commodityFields, unitFields, cancelFields, exemptionFields}
 use Rattle.lists.specs.Written.{written}
 use denote.Ref.{now}

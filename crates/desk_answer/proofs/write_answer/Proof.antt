@@ -5,8 +5,8 @@ use denote.Ref.{now}
 use lib.ListN.{length}
 use Rattle.booking.specs.Booking.{Result, resultOf}
 use Rattle.writing.specs.Writing.{writtenAt}
-use Rattle.answer_line.specs.Line.{lineOf}
-use Rattle.answer_line.proofs.Lines.{line-short}
+use Rattle.desk_answer.specs.Line.{lineOf}
+use Rattle.desk_answer.proofs.Lines.{line-short}
 use borrow.Author.Needs.{needs}
 use native.Mathlib.Omega.{arith}
 use Rattle.desk_answer.proofs.write_answer.Statement.{statement}

@@ -10,7 +10,7 @@ use lib.Dec.{eqb}
 use lib.IntN.{pos}
 use lib.ListN.{getD}
 use lib.Seq.{getD-take}
-use Rattle.text.specs.Text.{linesOf}
+use Rattle.records.specs.Text.{linesOf}
 use Rattle.columns.proofs.Laws.{column-at, charge-at, usage-at}
 use Rattle.format.specs.Format.{lineAt}
 use Rattle.file_bills.specs.Reading.{entryFrom}

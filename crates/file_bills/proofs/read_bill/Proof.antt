@@ -9,7 +9,7 @@ use borrow.Author.Needs.{needs}
 use borrow.Author.Tests.{not-true, not-false}
 use lib.Dec.{eqb}
 use lib.ListN.{length}
-use Rattle.text.specs.Text.{linesOf}
+use Rattle.records.specs.Text.{linesOf}
 use Rattle.columns.proofs.Laws.{column-at}
 use Rattle.format.specs.Format.{lineAt}
 use Rattle.bill_files.specs.Accepted.{isBill}

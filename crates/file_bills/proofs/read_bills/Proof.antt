@@ -6,7 +6,7 @@ use native.Mathlib.Omega.{arith}
 use denote.Ref.{now}
 use borrow.Author.Needs.{needs}
 use lib.ListN.{length}
-use Rattle.text.specs.Text.{linesOf}
+use Rattle.records.specs.Text.{linesOf}
 use Rattle.entries.proofs.Room.{room-same}
 use Rattle.file_bills.specs.Reading.{Reading}
 use Rattle.file_bills.proofs.Laws.{reading-none}

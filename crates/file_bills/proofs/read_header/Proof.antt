@@ -15,8 +15,8 @@ use lib.Seq.{getD-take}
 use Rattle.lists.specs.Bytes.{sameBytes}
 use Rattle.lists.specs.Written.{written}
 use Rattle.digits.specs.Digits.{digitsOf}
-use Rattle.text.specs.Text.{linesOf, At}
-use Rattle.text.proofs.Placed.{placed-at}
+use Rattle.records.specs.Text.{linesOf, At}
+use Rattle.records.proofs.Placed.{placed-at}
 use Rattle.records.specs.Records.{field}
 use Rattle.columns.specs.Columns.{chargeIn}
 use Rattle.columns.proofs.Laws.{charge-at}

@@ -1,5 +1,5 @@
 -- `intake::intake_book` meets its contract: a walk of its MIR, by hand, with branches by how many places Book is told of. Each arm has two local arrays, which are lent at its beginning, each for a lifetime that is made for it, and are room again at its end (`runs`'s `Local.antt`).
--- Of `places_told` and `book_in` the proof knows only that they meet their contracts (`lent_booking`'s `PlacesToldCalled.antt`, `BookInCalled.antt`).
+-- Of `places_told` and `book_in` the proof knows only that they meet their contracts (`lent_ledger`'s `PlacesToldCalled.antt`, `BookInCalled.antt`).
 -- Assumes nothing.
 use mathlib.Core.Path.{_≡_, refl, sym, ap, subst, _∙_}
 use Prim.Native.Nat.{ℕ, _≤_, _<_, _^_}
@@ -49,20 +49,20 @@ use Rattle.runs.proofs.Laws.{read-cap, read-below, has-room}
 use Rattle.runs.proofs.Local.{big-lit, local-typed, local-lent, local-lends, local-back}
 use Rattle.runs.proofs.Turn.{tyAt}
 use Rattle.booking.specs.Booking.{Input, inputOf, bookResult, runAfter}
-use Rattle.lent_booking.specs.declared.BookReply.{BookReply}
-use Rattle.lent_booking.specs.Replies.{bookReply, HostBooked, writtenTo, writtenFrom}
-use Rattle.lent_booking.specs.Told.{Told}
-use Rattle.text.specs.Text.{linesOf}
-use Rattle.lent_booking.proofs.BookReply as R
-use Rattle.lent_booking.proofs.BookReply.Laws as R′
-use Rattle.lent_booking.proofs.BookInCalled.{BookInContract, book-in-got, book-in-called}
-use Rattle.lent_booking.proofs.PlacesToldCalled.{PlacesToldContract, places-told-got, places-told-called}
-use Rattle.lent_booking.proofs.book_in.Symbol as book-in-def
-use Rattle.lent_booking.proofs.book_in.Symbol.{name as #book-in}
-use Rattle.lent_booking.proofs.book_in.Met as book-in-thm
-use Rattle.lent_booking.proofs.places_told.Symbol as places-told-def
-use Rattle.lent_booking.proofs.places_told.Symbol.{name as #places-told}
-use Rattle.lent_booking.proofs.places_told.Met as places-told-thm
+use Rattle.lent_ledger.specs.declared.BookReply.{BookReply}
+use Rattle.lent_ledger.specs.BookReplies.{bookReply, HostBooked, writtenTo, writtenFrom}
+use Rattle.lent_ledger.specs.Told.{Told}
+use Rattle.records.specs.Text.{linesOf}
+use Rattle.lent_ledger.proofs.BookReply as R
+use Rattle.lent_ledger.proofs.BookReply.Laws as R′
+use Rattle.lent_ledger.proofs.BookInCalled.{BookInContract, book-in-got, book-in-called}
+use Rattle.lent_ledger.proofs.PlacesToldCalled.{PlacesToldContract, places-told-got, places-told-called}
+use Rattle.lent_ledger.proofs.book_in.Symbol as book-in-def
+use Rattle.lent_ledger.proofs.book_in.Symbol.{name as #book-in}
+use Rattle.lent_ledger.proofs.book_in.Met as book-in-thm
+use Rattle.lent_ledger.proofs.places_told.Symbol as places-told-def
+use Rattle.lent_ledger.proofs.places_told.Symbol.{name as #places-told}
+use Rattle.lent_ledger.proofs.places_told.Met as places-told-thm
 use Rattle.intake.proofs.intake_book.Key.{name as #this}
 use Rattle.intake.proofs.intake_book as this
 use Rattle.intake.proofs.intake_book.Statement as stated
@@ -291,5 +291,5 @@ intake-book-spec 𝓤 H 𝓜 𝓖 𝓡 =
     entered 𝓤 H (tripleOf 𝓤 H (𝓖 .A) this.signature (this.spec 𝓤 H (𝓖 .A) (𝓜 .mem) (𝓡 .run)))
     (tables 𝓤 H 𝓜 𝓡 code.env .C) (tables 𝓤 H 𝓜 𝓡 code.env .Λ) #this code.function (code.unfolded 𝓤 H 𝓜 𝓡)
     (this-meets 𝓤 H (𝓖 .A) (givenOf 𝓤 H 𝓜 𝓖) (𝓜 .mem) (𝓡 .run) (tablesOf 𝓤 H 𝓜 (tables 𝓤 H 𝓜 𝓡 code.env))
-    (cited 𝓤 H (BookInContract 𝓤 H (𝓖 .A) (𝓜 .mem) (𝓡 .run)) 𝓜 𝓡 code.env #book-in book-in-def.routine code.calls-lent-booking·book-in (book-in-thm.met 𝓤 H 𝓜 𝓖 𝓡))
-    (cited 𝓤 H (PlacesToldContract 𝓤 H (𝓖 .A) (𝓜 .mem) (𝓡 .run)) 𝓜 𝓡 code.env #places-told places-told-def.routine code.calls-lent-booking·places-told (places-told-thm.met 𝓤 H 𝓜 𝓖 𝓡)))
+    (cited 𝓤 H (BookInContract 𝓤 H (𝓖 .A) (𝓜 .mem) (𝓡 .run)) 𝓜 𝓡 code.env #book-in book-in-def.routine code.calls-lent-ledger·book-in (book-in-thm.met 𝓤 H 𝓜 𝓖 𝓡))
+    (cited 𝓤 H (PlacesToldContract 𝓤 H (𝓖 .A) (𝓜 .mem) (𝓡 .run)) 𝓜 𝓡 code.env #places-told places-told-def.routine code.calls-lent-ledger·places-told (places-told-thm.met 𝓤 H 𝓜 𝓖 𝓡)))

@@ -9,8 +9,8 @@ use borrow.Author.Count.{below-more}
 use borrow.Author.Needs.{needs}
 use lib.ListN.{getD}
 use Rattle.format.specs.Format.{lineAt, unformatted, firstUnformatted}
-use Rattle.text.proofs.Placed.{placed-at}
-use Rattle.text.specs.Text.{linesOf, At}
+use Rattle.records.proofs.Placed.{placed-at}
+use Rattle.records.specs.Text.{linesOf, At}
 use Rattle.line_reader.proofs.Unread.{first-here, first-none}
 use Rattle.line_reader.proofs.first_unformatted.Statement.{statement}
 use Rattle.line_reader.proofs.first_unformatted.Tie as tie

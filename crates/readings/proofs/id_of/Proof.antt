@@ -1,11 +1,11 @@
 -- `readings::id_of` meets its contract: the digits at the start end the field, so they are its ID, or the field is empty.
 -- Assumes nothing.
 use Rattle.readings.proofs.Ids.{id-bound, id-read}
-use Rattle.amount_readings.proofs.Missed.{told-not}
+use Rattle.readings.proofs.AmountsMissed.{told-not}
 use Rattle.readings.proofs.Missed.{id-ends}
-use Rattle.leading_bytes.proofs.Ends.{end-ends}
+use Rattle.readings.proofs.Ends.{end-ends}
 use Rattle.readings.proofs.Fields.{empty-read}
-use Rattle.leading_bytes.specs.LeadingBytes.{Ends}
+use Rattle.readings.specs.LeadingBytes.{Ends}
 use Rattle.fields.specs.declared.FieldType.the-variants.{RecordId}
 use denote.Ref.{now}
 use borrow.Author.Tests.{not-false, not-true}

@@ -1,12 +1,12 @@
 -- `readings::read_char` meets its contract: the bytes at the start end the field, and are as many as the width.
 -- Assumes nothing.
-use Rattle.amount_readings.proofs.Missed.{told-not}
+use Rattle.readings.proofs.AmountsMissed.{told-not}
 use Rattle.readings.proofs.Missed.{char-length, text-ends}
-use Rattle.leading_bytes.proofs.Ends.{field-length, ends-there}
+use Rattle.readings.proofs.Ends.{field-length, ends-there}
 use mathlib.Core.Logic.{⊎-elim}
 use Rattle.readings.proofs.Texts.{char-read}
 use Rattle.readings.proofs.Fields.{empty-read}
-use Rattle.leading_bytes.specs.LeadingBytes.{Ends, leadingField}
+use Rattle.readings.specs.LeadingBytes.{Ends, leadingField}
 use Rattle.fields.specs.declared.FieldType.the-variants.{Char}
 use denote.Ref.{now}
 use borrow.Author.Tests.{not-false, not-true}

@@ -1,9 +1,9 @@
 -- `readings::read_date` meets its contract: an ID of eight digits whose number is a date, or an empty field.
 -- Assumes nothing.
-use Rattle.amount_readings.proofs.Missed.{told-not}
+use Rattle.readings.proofs.AmountsMissed.{told-not}
 use Rattle.readings.proofs.Missed.{date-id, date-length, date-day}
-use Rattle.leading_bytes.proofs.Ends.{field-length}
-use Rattle.leading_bytes.specs.LeadingBytes.{leadingField}
+use Rattle.readings.proofs.Ends.{field-length}
+use Rattle.readings.specs.LeadingBytes.{leadingField}
 use Rattle.readings.proofs.Ids.{id-empty, id-number, date-read}
 use mathlib.Core.Bool.{true, false}
 use mathlib.Core.Logic.{⊎-elim}

@@ -1,9 +1,9 @@
 -- `readings::read_digits` meets its contract: an ID of the right length, or an empty field.
 -- Assumes nothing.
-use Rattle.amount_readings.proofs.Missed.{told-not}
+use Rattle.readings.proofs.AmountsMissed.{told-not}
 use Rattle.readings.proofs.Missed.{fixed-id, fixed-length}
-use Rattle.leading_bytes.proofs.Ends.{field-length}
-use Rattle.leading_bytes.specs.LeadingBytes.{leadingField}
+use Rattle.readings.proofs.Ends.{field-length}
+use Rattle.readings.specs.LeadingBytes.{leadingField}
 use Rattle.readings.proofs.Ids.{id-empty, fixed-read}
 use mathlib.Core.Bool.{Bool, true, false}
 use mathlib.Core.Logic.{⊎-elim}

@@ -1,6 +1,6 @@
 -- `readings::read_field` meets its contract: each arm reads the type that the code stands for.
 -- Assumes nothing.
-use Rattle.field_types.specs.Codes.{typeOfCode}
+use Rattle.tables.specs.Codes.{typeOfCode}
 use borrow.Author.Tests.{ne-eqb, leb-true}
 use lib.Dec.{leb}
 use Rattle.digits.proofs.Laws.{both-true}

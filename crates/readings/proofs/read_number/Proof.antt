@@ -1,13 +1,13 @@
 -- `readings::read_number` meets its contract: an empty field, an amount after its minus, or one without.
 -- Assumes nothing.
-use Rattle.amount_readings.proofs.Missed.{told-not}
+use Rattle.readings.proofs.AmountsMissed.{told-not}
 use Rattle.readings.proofs.Missed.{number-not, minus-not, plain-not}
-use Rattle.leading_bytes.specs.LeadingBytes.{fieldEnd, leadingField}
-use Rattle.leading_bytes.proofs.Ends.{field-length, end-more, next-ends, next-inside, next-is}
+use Rattle.readings.specs.LeadingBytes.{fieldEnd, leadingField}
+use Rattle.readings.proofs.Ends.{field-length, end-more, next-ends, next-inside, next-is}
 use lib.Seq.{getD-take}
 use Rattle.readings.proofs.Numbers.{plain-number, minus-number}
 use Rattle.readings.proofs.Fields.{empty-read}
-use Rattle.amount_readings.specs.AmountReadings.{MagnitudeRead}
+use Rattle.readings.specs.AmountReadings.{MagnitudeRead}
 use Rattle.fields.specs.declared.FieldType.the-variants.{Number}
 use denote.Ref.{now}
 use lib.ListN.{length, getD}

@@ -1,9 +1,9 @@
 -- `readings::read_varchar` meets its contract: the bytes at the start end the field, or else the field goes to the first comma and says no number.
 -- Assumes nothing.
-use Rattle.amount_readings.proofs.Missed.{told-not}
+use Rattle.readings.proofs.AmountsMissed.{told-not}
 use Rattle.readings.proofs.Missed.{varchar-length, text-ends}
-use Rattle.leading_bytes.proofs.Ends.{field-length, ends-there}
-use Rattle.leading_bytes.specs.LeadingBytes.{leadingField}
+use Rattle.readings.proofs.Ends.{field-length, ends-there}
+use Rattle.readings.specs.LeadingBytes.{leadingField}
 use Rattle.readings.proofs.Texts.{varchar-read, long-read}
 use denote.Ref.{now}
 use Prim.Native.Nat.{ℕ}

@@ -2,7 +2,7 @@
 -- Assumes nothing.
 use Rattle.records.proofs.Laws.{place-among}
 use Rattle.records.specs.Records.{fieldAmong, fieldsAt}
-use Rattle.text.specs.Text.{At}
+use Rattle.records.specs.Text.{At}
 use denote.Ref.{now}
 use borrow.Author.Needs.{needs}
 use Rattle.records.proofs.field_among.Statement.{statement}

@@ -1,12 +1,12 @@
 -- `record_at` meets its contract. The loop's invariant: n fields have their places, and the fields of the rest of the line are left.
 -- Where 24 fields don't reach the end of the line, there are more than 24.
 -- Assumes nothing.
-use Rattle.types.specs.Types.{typeNamed}
+use Rattle.tables.specs.Types.{typeNamed}
 use Rattle.records.specs.Records.{field, typeIn}
 use Rattle.records.proofs.Laws.{type-third, fields-few, fields-many}
-use Rattle.text.proofs.Placed.{Going, going-none, going-more, going-end, going-count, placed-at}
-use Rattle.text.proofs.Cut.{part-length, fields-more, fields-last, cut-some}
-use Rattle.text.specs.Text.{part, fieldsOf, Placed}
+use Rattle.records.proofs.Placed.{Going, going-none, going-more, going-end, going-count, placed-at}
+use Rattle.records.proofs.Cut.{part-length, fields-more, fields-last, cut-some}
+use Rattle.records.specs.Text.{part, fieldsOf, Placed}
 use Rattle.lists.proofs.First.{first-le}
 use Rattle.lists.specs.First.{isByte}
 use lib.ListN.{length, set, length-set}

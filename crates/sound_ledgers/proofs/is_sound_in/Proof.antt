@@ -7,8 +7,8 @@ use borrow.Author.Tests.{not-true, not-false}
 use Rattle.buckets.proofs.Repeats.{all-different}
 use Rattle.entries.specs.Words.{entriesOf}
 use Rattle.entries.proofs.Words.{length-entries}
-use Rattle.entry_keys.proofs.Laws.{keys-differ}
-use Rattle.live_periods.proofs.Laws.{live-apart, live-meeting}
+use Rattle.sound_ledgers.proofs.Keys.{keys-differ}
+use Rattle.sound_ledgers.proofs.Gathered.{live-apart, live-meeting}
 use Rattle.sound_ledgers.proofs.Laws.{shown-sound, shown-unsound}
 use borrow.Author.Needs.{needs}
 use native.Mathlib.Omega.{arith}

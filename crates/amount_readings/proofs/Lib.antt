@@ -1,2 +1,0 @@
-pub mod Magnitudes
-pub mod Missed

@@ -1,0 +1,35 @@
+-- `desk_answer::write_number` meets its contract: the digits are a piece, and the store is one byte more.
+-- Assumes nothing.
+use borrow.Author.Needs.{needs}
+use native.Mathlib.Omega.{arith}
+use mathlib.Core.List.{[], _∷_}
+use mathlib.Core.Path.{_≡_, sym, _∙_}
+use denote.Ref.{now}
+use Rattle.writing.specs.Writing.{plainDigits}
+use Rattle.writing.proofs.Places.{piece, written-one}
+use Rattle.desk_answer.proofs.write_number.Statement.{statement}
+use Rattle.desk_answer.proofs.write_number.Tie as tie
+
+write-plain-requires : tie.Need-write-plain-requires
+write-plain-requires c κs = search needs
+
+slice-write-out : tie.Need-slice-write-out
+slice-write-out c = search needs
+
+add-result : tie.Need-add-result
+add-result c = search needs
+
+same-length : tie.Need-same-length
+same-length c = search needs
+
+returns : tie.Need-returns
+returns c =
+    let a = c .before .before .before .before .before .args in
+    let w = c .before .before .write-plain in (
+      sym (piece (now (a .out)) (a .at) (w .last .0) (plainDigits (a .n)) (a .end ∷ []) (w .result) (omega arith) (w .ensures .0) (w .ensures .1) ∙ sym (written-one (w .last .0) (w .result) (a .end) (omega arith))),
+      omega arith,
+    )
+
+pub write-number-spec : {M : Type 1} → statement M
+write-number-spec =
+    tie.close (tie.spec write-plain-requires slice-write-out add-result same-length returns)

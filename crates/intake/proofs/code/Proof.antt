@@ -1,0 +1,28 @@
+-- `intake::code` meets its contract: it packs the answers of `codes::code_of`.
+-- Assumes nothing.
+use borrow.Author.Needs.{needs}
+use native.Mathlib.Omega.{arith}
+use Rattle.intake.proofs.code.Statement.{statement}
+use Rattle.intake.proofs.code.Tie as tie
+
+code-of-requires : tie.Need-code-of-requires
+code-of-requires c κs = search needs
+
+enum-known-code : tie.Need-enum-known-code
+enum-known-code c = search needs
+
+enum-told : tie.Need-enum-told
+enum-told c = search needs
+
+mul-result : tie.Need-mul-result
+mul-result c = search needs
+
+returns : tie.Need-returns
+returns c = simp (← c .before .before .before .code-of .ensures, c .before .code .given .1) (omega arith)
+
+returns-2 : tie.Need-returns-2
+returns-2 c = simp (← c .before .before .code-of .ensures, c .enum-told .given .1)
+
+pub code-spec : {M : Type 1} → statement M
+code-spec =
+    tie.close (tie.spec code-of-requires enum-known-code enum-told mul-result returns returns-2)

@@ -1,0 +1,28 @@
+-- `intake::day` meets its contract: it packs the answers of `dates::day_of`.
+-- Assumes nothing.
+use borrow.Author.Needs.{needs}
+use native.Mathlib.Omega.{arith}
+use Rattle.intake.proofs.day.Statement.{statement}
+use Rattle.intake.proofs.day.Tie as tie
+
+day-of-requires : tie.Need-day-of-requires
+day-of-requires c κs = search needs
+
+enum-known-day : tie.Need-enum-known-day
+enum-known-day c = search needs
+
+enum-told : tie.Need-enum-told
+enum-told c = search needs
+
+mul-result : tie.Need-mul-result
+mul-result c = search needs
+
+returns : tie.Need-returns
+returns c = simp (← c .before .before .before .day-of .ensures, c .before .day .given .1) (omega arith)
+
+returns-2 : tie.Need-returns-2
+returns-2 c = simp (← c .before .before .day-of .ensures, c .enum-told .given .1)
+
+pub day-spec : {M : Type 1} → statement M
+day-spec =
+    tie.close (tie.spec day-of-requires enum-known-day enum-told mul-result returns returns-2)

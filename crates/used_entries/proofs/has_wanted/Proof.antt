@@ -1,0 +1,26 @@
+-- `used_entries::has_wanted` meets its contract: there is such an entry exactly where the first place of one is below the used count. No marks are given, so no place is marked.
+-- Assumes nothing.
+use mathlib.Core.Path.{_≡_, ap, _∙_}
+use Prim.Native.Nat.{ℕ}
+use denote.Ref.{now}
+use borrow.Author.Needs.{needs}
+use lib.Dec.{ltb}
+use Rattle.used_entries.specs.Searches.{wants, wantedAt}
+use Rattle.used_entries.proofs.Laws.{some-any}
+use Rattle.used_entries.proofs.has_wanted.Statement.{statement}
+use Rattle.used_entries.proofs.has_wanted.Tie as tie
+
+slice-aggregate-first-wanted : tie.Need-slice-aggregate-first-wanted
+slice-aggregate-first-wanted c = search needs
+
+first-wanted-requires : tie.Need-first-wanted-requires
+first-wanted-requires c κs = search needs
+
+returns : tie.Need-returns
+unfolding wantedAt
+returns c =
+    let a = c .before .before .before .before .before .args in
+    ap (λ (m : ℕ). ltb m (a .used)) (c .first-wanted .ensures) ∙ some-any (wants (a .search)) (now (a .words)) (now (a .amounts)) (a .used)
+
+pub has-wanted-spec : {M : Type 1} → statement M
+has-wanted-spec = tie.close (tie.spec slice-aggregate-first-wanted first-wanted-requires returns)

@@ -1,0 +1,22 @@
+-- `used_entries::is_unmarked` meets its contract: what is read past the marks is 0.
+-- Assumes nothing.
+use mathlib.Core.Path.{_≡_, sym, ap}
+use Prim.Native.Nat.{ℕ}
+use denote.Ref.{now}
+use borrow.Author.Needs.{needs}
+use lib.Dec.{eqb}
+use lib.ListN.{List·getD-eq-default}
+use Rattle.used_entries.proofs.is_unmarked.Statement.{statement}
+use Rattle.used_entries.proofs.is_unmarked.Tie as tie
+
+returns : tie.Need-returns
+returns c = sym (ap (λ (m : ℕ). eqb m 0) (List·getD-eq-default (now (c .before .args .marks)) 0 (c .if1 .taken)))
+
+shared-slice-read-result : tie.Need-shared-slice-read-result
+shared-slice-read-result c = search needs
+
+returns-2 : tie.Need-returns-2
+returns-2 c = search needs
+
+pub is-unmarked-spec : {M : Type 1} → statement M
+is-unmarked-spec = tie.close (tie.spec returns shared-slice-read-result returns-2)
