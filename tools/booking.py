@@ -7,8 +7,9 @@ CRATE = "lent_ledger"
 HERE = f"Rattle.{CRATE}.proofs."
 SPECS = f"""use Rattle.booking.specs.Booking.{{Input, inputOf, bookResult, runAfter}}
 use Rattle.{CRATE}.specs.declared.BookReply.{{BookReply}}
-use Rattle.{CRATE}.specs.BookReplies.{{bookReply, HostBooked, writtenTo, writtenFrom}}
-use Rattle.{CRATE}.specs.Told.{{Told}}
+use Rattle.{CRATE}.specs.BookReplies.{{bookReply, HostBooked}}
+use Rattle.{CRATE}.specs.InsideWritten.{{writtenTo, writtenFrom}}
+use Rattle.{CRATE}.specs.InsideTold.{{Told}}
 use Rattle.records.specs.Text.{{linesOf}}
 use {HERE}BookReply as R
 """
@@ -47,8 +48,8 @@ def core_called():
     fact = "(x ≡ reply) × (entriesOf (ls .1 .1 .1 .0) (ls .1 .1 .1 .1 .0) n ≡ runAfter i)"
     return f"""-- `{CRATE}::book_reply` as a walk by hand calls it: the words and the amounts, two slices `&mut` of the caller, are lent again for the call (`runs`'s `Lent.antt`); the distributors and the file are passed as copies of their `&`.
 -- Assumes `Given`, that the table of calls is monotone under a frame, and that its entry meets the callee's contract.
-{CALLED_U8}use Rattle.entries.specs.Words.{{RoomFor, entriesOf}}
-use Rattle.soundness.specs.Room.{{readCount}}
+{CALLED_U8}use Rattle.entries.specs.InsideWords.{{RoomFor, entriesOf}}
+use Rattle.soundness.specs.InsideRoom.{{readCount}}
 use Rattle.runs.proofs.Lent.{{cites-by, words, lent, said, lends-got, lends-says, lends}}
 {SPECS}{symbols(CRATE, 'book_reply')}{contract('book_reply')}
 module _ {GIVEN} (W : Given 𝓤 H A) {RUNNING} (C : Calls 𝓤 H) (fm : FmC 𝓤 H (W .laws) C)
@@ -140,10 +141,10 @@ def written_called():
 -- Assumes `Given`, that the table of calls is monotone under a frame, and that its entry meets the callee's contract.
 {uses}use denote.RattleType.{{owns}}
 use denote.Struct.Laws as LL
-use Rattle.entries.specs.Words.{{RoomFor, entriesOf}}
+use Rattle.entries.specs.InsideWords.{{RoomFor, entriesOf}}
 use Rattle.runs.proofs.Lent.{{cites, words, shared, shares-got, shares-says, shares}}
 use Rattle.{CRATE}.specs.declared.BookReply.{{BookReply}}
-use Rattle.{CRATE}.specs.BookReplies.{{writtenTo, writtenFrom}}
+use Rattle.{CRATE}.specs.InsideWritten.{{writtenTo, writtenFrom}}
 use {HERE}BookReply as R
 use {HERE}BookReply.Laws as R′
 {symbols(CRATE, 'written_to')}{symbols(CRATE, 'written_from')}{contract('written_to')}{contract('written_from')}
@@ -243,9 +244,9 @@ def inner_called():
     return f"""-- `{CRATE}::book_in` as a walk by hand calls it: the words and the amounts, two slices `&mut` of the caller, are lent again for the call (`runs`'s `Lent.antt`); the run is given up for good, and its last list is what Book leaves; the distributors and the file are passed as copies of their `&`.
 -- Assumes `Given`, that the table of calls is monotone under a frame, and that its entry meets the callee's contract.
 {CALLED_U8.replace('{_≡_, refl, subst}', '{_≡_, refl, sym, ap, subst, _∙_}').replace('pick, fsplit,', 'pick, rewrite, fsplit,').replace('{sliceVal, ShrSlice, Room, shr-slice-copy}', '{sliceVal, ShrSlice, MutSlice, Room, finally, shr-slice-copy}')}use Rattle.entries.specs.declared.Entry.{{Entry}}
-use Rattle.entries.specs.Words.{{RoomFor}}
+use Rattle.entries.specs.InsideWords.{{RoomFor}}
 use Rattle.entries.proofs.Entry as T
-use Rattle.soundness.specs.Room.{{readCount}}
+use Rattle.soundness.specs.InsideRoom.{{readCount}}
 use Rattle.runs.proofs.Lent.{{cites-by, words, lent, said, lends-got, lends-says, lends}}
 {SPECS}{symbols(CRATE, 'book_in')}{contract('book_in')}
 module _ {GIVEN} (W : Given 𝓤 H A) {RUNNING} (C : Calls 𝓤 H) (fm : FmC 𝓤 H (W .laws) C)
@@ -352,7 +353,7 @@ def told_called():
 {CALLED_U8.replace('{_≡_, refl, subst}', '{_≡_, refl, ap}').replace('{owned, facts, heard, nothing}', '{only, owned, facts, heard, nothing}').replace('{SProp, ent, sep, id⊢, exE, snd∗}', '{SProp, ent, sep, emp, id⊢, comm∗, exE, snd∗}').replace('use1, split,', 'use1, use2, split,').replace('frame, await,', 'frame, suffices, await,')}use denote.RattleType.{{owns}}
 use Rattle.runs.proofs.Lent.{{cites-by}}
 use Rattle.records.specs.Text.{{linesOf}}
-use Rattle.{CRATE}.specs.Told.{{Told}}
+use Rattle.{CRATE}.specs.InsideTold.{{Told}}
 {symbols(CRATE, 'places_told')}{contract('places_told')}
 module _ {GIVEN} (W : Given 𝓤 H A) {RUNNING} (C : Calls 𝓤 H) (fm : FmC 𝓤 H (W .laws) C)
     (known : Triple 𝓤 (C #places-told) ({cap} 𝓤 H A mem run)) (κd κf : Lft) (qd qf : Share) (d f : RefT (List ℕ)) (n used : ℕ) where
@@ -465,7 +466,7 @@ def inner_walk():
 -- Of each callee the proof knows only that it meets its contract (`BookReplyCalled.antt`, `WrittenCalled.antt`; `runs`'s `Runs.antt`).
 -- Assumes nothing.
 {WALK_BOOK}use Rattle.entries.proofs.Room.{{room-same}}
-use Rattle.runs.specs.Copies.{{placed}}
+use Rattle.runs.specs.InsideCopies.{{placed}}
 use Rattle.runs.proofs.Again.{{SharedAgain, shares-again, comes-home}}
 use Rattle.runs.proofs.Lent.{{words}}
 use Rattle.runs.proofs.Runs.{{Load, Store, load-got, load-called, store-got, store-called}}

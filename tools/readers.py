@@ -38,8 +38,8 @@ def core_called(o):
     refs = ["record { ptr = (b₁, o₁); name = δ₁; now = ns }", "record { ptr = (b₂, o₂); name = δ₂; now = zs }"]
     return f"""-- `{CRATE}::{f}` as a walk by hand calls it: the words and the amounts, two slices `&mut` of the caller, are lent as `&` for the call (`runs`'s `Lent.antt`).
 -- Assumes `Given`, that the table of calls is monotone under a frame, and that its entry meets the callee's contract.
-{CALLED}use Rattle.entries.specs.Words.{{RoomFor, entriesOf}}
-use Rattle.soundness.specs.Room.{{readCount}}
+{CALLED}use Rattle.entries.specs.InsideWords.{{RoomFor, entriesOf}}
+use Rattle.soundness.specs.InsideRoom.{{readCount}}
 use Rattle.runs.proofs.Lent.{{cites, words, shared, shares-got, shares-says, shares}}
 {o.specs}{symbols(CRATE, f)}{contract(f)}
 module _ {GIVEN} (W : Given 𝓤 H A) {RUNNING} (C : Calls 𝓤 H) (fm : FmC 𝓤 H (W .laws) C)
@@ -113,9 +113,9 @@ def inner_called(o):
     return f"""-- `{CRATE}::{f}` as a walk by hand calls it: the words and the amounts, two slices `&mut` of the caller, are lent again for the call (`runs`'s `Lent.antt`); the run is passed as a copy of its `&`.
 -- Assumes `Given`, that the table of calls is monotone under a frame, and that its entry meets the callee's contract.
 {CALLED}use Rattle.entries.specs.declared.Entry.{{Entry}}
-use Rattle.entries.specs.Words.{{RoomFor}}
+use Rattle.entries.specs.InsideWords.{{RoomFor}}
 use Rattle.entries.proofs.Entry as T
-use Rattle.soundness.specs.Room.{{readCount}}
+use Rattle.soundness.specs.InsideRoom.{{readCount}}
 use Rattle.runs.proofs.Lent.{{cites-by, words, lent, said, lends-got, lends-says, lends}}
 {o.specs}{symbols(CRATE, f)}{contract(f)}
 module _ {GIVEN} (W : Given 𝓤 H A) {RUNNING} (C : Calls 𝓤 H) (fm : FmC 𝓤 H (W .laws) C)

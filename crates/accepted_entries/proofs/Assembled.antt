@@ -15,8 +15,8 @@ use Rattle.entries.specs.declared.Entry.{Entry}
 use Rattle.entries.specs.Entries.{isHeld}
 use Rattle.booking.specs.Booking.{fileEntry, cancels, originals, bookCancels, bookOriginals, booked}
 use Rattle.booking.proofs.Added.{cancelAll, ahead, originalEntries, cancels-parts, held-count}
-use Rattle.accepted_entries.specs.Accepted.{Leaves}
-use Rattle.ledger_tests.specs.Tests.{Named}
+use Rattle.accepted_entries.specs.InsideAccepted.{Leaves}
+use Rattle.ledger_tests.specs.InsideTests.{Named}
 use Rattle.accepted_entries.proofs.Steps.{drop-later, snoc-set}
 use Rattle.accepted_entries.proofs.Originals.{originals-added}
 

@@ -17,12 +17,12 @@ use Rattle.lists.specs.Selections.{filter, count}
 use Rattle.bill_files.specs.Accepted.{Bill}
 use Rattle.entries.specs.declared.Entry.{Entry}
 use Rattle.entries.specs.Entries.{inState, isHeld, isPeriod}
-use Rattle.used_entries.specs.Sited.{overlapsEntry}
+use Rattle.used_entries.specs.InsideSited.{overlapsEntry}
 use Rattle.booking.specs.Booking.{entry, overlaps, firstOverlap, stateOf, original, bookOriginals}
 use Rattle.booking.specs.Acceptable.{billAt}
 use Rattle.booking.proofs.Added.{originalEntries, originals-parts}
-use Rattle.accepted_entries.specs.Accepted.{stateAfter, originalAfter, withOriginal, Leaves}
-use Rattle.file_bills.specs.Bills.{isCancel, sourceEntry}
+use Rattle.accepted_entries.specs.InsideAccepted.{stateAfter, originalAfter, withOriginal, Leaves}
+use Rattle.file_bills.specs.InsideBills.{isCancel, sourceEntry}
 use Rattle.accepted_entries.proofs.Steps.{left-here, left-past, drop-later, snoc-set}
 use Rattle.file_bills.proofs.Sources.{source-cancel, source-as}
 

@@ -14,11 +14,11 @@ use lib.ListN.{length, set}
 use lib.Seq.{getD-set-same, getD-set-other}
 use Rattle.entries.specs.declared.Entry.{Entry}
 use Rattle.entries.specs.Entries.{blank, entryOf}
-use Rattle.entries.specs.Words.{entryAt, entriesOf}
+use Rattle.entries.specs.InsideWords.{entryAt, entriesOf}
 use Rattle.entries.proofs.Words.{length-entries, entry-of}
-use Rattle.buckets.specs.Chains.{ChainRoom, Pushed}
+use Rattle.buckets.specs.InsideChains.{ChainRoom, Pushed}
 use Rattle.buckets.proofs.Chains.{chained-same}
-use Rattle.used_entries.specs.Sited.{siteIn, BySite}
+use Rattle.used_entries.specs.InsideSited.{siteIn, BySite}
 
 pub one-at-most : (t : Bool) → cond t 1 0 ≤ 1
 one-at-most true = le-refl 1

@@ -6,13 +6,13 @@ ghost use lib.Dec.{eqb};
 ghost use lib.ListN.{length, getD, set, take, drop};
 ghost use Rattle.lists.specs.Selections.{count};
 ghost use Rattle.entries.specs.Entries.{entryOf, inState, isHeld};
-ghost use Rattle.entries.specs.Words.{RoomFor, entriesOf};
-ghost use Rattle.buckets.specs.Chains.{ChainRoom};
-ghost use Rattle.used_entries.specs.Sited.{BySite};
+ghost use Rattle.entries.specs.InsideWords.{RoomFor, entriesOf};
+ghost use Rattle.buckets.specs.InsideChains.{ChainRoom};
+ghost use Rattle.used_entries.specs.InsideSited.{BySite};
 ghost use Rattle.booking.specs.Booking.{cancels, originals, fileEntry, bookCancels, bookOriginals, booked};
-ghost use Rattle.file_bills.specs.Bills.{fileIn, Source, isCancel};
-ghost use Rattle.ledger_tests.specs.Tests.{Named};
-ghost use Rattle.accepted_entries.specs.Accepted.{Leaves, withCancel, stateAfter, withOriginal};
+ghost use Rattle.file_bills.specs.InsideBills.{fileIn, Source, isCancel};
+ghost use Rattle.ledger_tests.specs.InsideTests.{Named};
+ghost use Rattle.accepted_entries.specs.InsideAccepted.{Leaves, withCancel, stateAfter, withOriginal};
 use entries::Entry;
 
 // How many entries are in use, and how many of those written are held.

@@ -1,2 +1,3 @@
 pub mod Amounts
+pub mod InsideMagnitudes
 pub mod Sums

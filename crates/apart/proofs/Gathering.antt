@@ -21,8 +21,8 @@ use lib.ListN.{length, getD, set}
 use lib.Seq.{getD-set-same, getD-set-other}
 use Rattle.lists.specs.Below.{countBelow}
 use Rattle.lists.proofs.Below.{count-none, count-more, count-kept}
-use Rattle.apart.specs.Apart.{Within, Apart, Meeting}
-use Rattle.apart.specs.Gathered.{spread, dayNumber, Gathered, Gathering}
+use Rattle.apart.specs.InsideApart.{Within, Apart, Meeting}
+use Rattle.apart.specs.InsideGathered.{spread, dayNumber, Gathered, Gathering}
 
 module _ (f : ℕ → Bool) where
   -- a place at which the test holds counts for all later ones

@@ -1,3 +1,3 @@
-pub mod Apart
-pub mod Gathered
-pub mod Sorting
+pub mod InsideApart
+pub mod InsideGathered
+pub mod InsideSorting

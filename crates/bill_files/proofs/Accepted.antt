@@ -42,7 +42,7 @@ use Rattle.format.specs.Format.{lineAt}
 use Rattle.lists.proofs.Reflected.{both-of, denied, empty-is}
 use Rattle.bill_files.specs.Accepted.{Bill, numberOrZero, numberOrNone, dayOrZero, senderIn, idIn, isPeriod, isBill, billIn, billsIn, billFile}
 use Rattle.lists.specs.Selections.{filter}
-use Rattle.bill_files.specs.Fits.{BillFits, FileFits, Distinct}
+use Rattle.bill_files.specs.InsideFits.{BillFits, FileFits, Distinct}
 use Rattle.bill_files.specs.Passing.{typeAt, idAt, Passing}
 
 -- ════ numbers that are read

@@ -22,7 +22,7 @@ use Rattle.tables.proofs.RecordTypes.{parent-at, picked-at, place-at, one-at}
 use Rattle.format.specs.Format.{lineAt}
 use Rattle.identity.proofs.Meaning.{every-parent}
 use Rattle.totals.specs.Totals.{amountAt, groupSum}
-use Rattle.totals.specs.Sums.{groupsSum}
+use Rattle.totals.specs.InsideSums.{groupsSum}
 use Rattle.totals.proofs.Laws.{sum-same, sum-none, sum-split}
 use Rattle.refusals.specs.Check.{types, charges, parentsOf, placesOf, onesOf}
 use Rattle.bill_files.specs.Accepted.{isPeriod, isBill, billIn, billsIn, billFile, sumOfCharges}

@@ -1,3 +1,3 @@
 pub mod Accepted
-pub mod Fits
+pub mod InsideFits
 pub mod Passing

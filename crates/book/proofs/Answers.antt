@@ -21,8 +21,8 @@ use Rattle.booking.specs.declared.Answer.the-variants.{Refused}
 use Rattle.booking.specs.Booking.{Input, Result, fileOf, ledgerOf, bookRefusal, isBooked, ledgerAfter, addedBy, refusedResult, acceptedResult, resultOf, bookResult}
 use Rattle.booking.proofs.Added.{length-booked, added-count}
 use Rattle.booking.proofs.Steps.{refused-leaves, used-accepted, run-accepted}
-use Rattle.accepted_entries.specs.Accepted.{Leaves}
-use Rattle.book.specs.Book.{Meets}
+use Rattle.accepted_entries.specs.InsideAccepted.{Leaves}
+use Rattle.book.specs.InsideBook.{Meets}
 
 module _ (i : Input) where
   pub refuses : (number line : ℕ) → bookRefusal i ≡ outcome number line → (number ≡ 0 → ⊥) → Meets i (Refused number line) (i .run)

@@ -12,10 +12,10 @@ use Rattle.format.specs.Format.{lineAt}
 use Rattle.bill_files.specs.Accepted.{Bill, billFile, senderIn, commodityIn}
 use Rattle.entries.specs.declared.Entry.{Entry}
 use Rattle.booking.specs.Booking.{fileEntry}
-use Rattle.file_bills.specs.Bills.{Source, References}
-use Rattle.file_bills.specs.Reading.{Reading}
+use Rattle.file_bills.specs.InsideBills.{Source, References}
+use Rattle.file_bills.specs.InsideReading.{Reading}
 use Rattle.file_bills.proofs.Laws.{all-bills, all-lines}
-use Rattle.ledger_tests.specs.Bills.{Bills}
+use Rattle.ledger_tests.specs.InsideBills.{Bills}
 
 pub bills-read : (lines : List (List ℕ)) (n r : ℕ) (words : List ℕ) (amounts : List ℤ) (references at : List ℕ) → n ≡ length lines → n ≤ 4096
     → n ≤ length at → Reading lines n r words amounts references at → Bills (billFile lines) words amounts references at r

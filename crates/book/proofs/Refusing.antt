@@ -16,7 +16,7 @@ use Rattle.refusals.proofs.Outcomes.{tests-parts, check-numbered}
 use Rattle.refusals.proofs.Joined.{stage-stops, stage-goes}
 use Rattle.soundness.specs.Sound.{isSound}
 use Rattle.booking.specs.Booking.{Input, fileOf, ledgerOf, openingRefusals, ledgerRefusals, bookRefusals, bookRefusal}
-use Rattle.book.specs.Book.{Ready, Opened, Tested}
+use Rattle.book.specs.InsideBook.{Ready, Opened, Tested}
 
 module _ (i : Input) where
   abbrev tests : List Refusal

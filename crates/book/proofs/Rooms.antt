@@ -10,16 +10,16 @@ use Prim.Native.Nat.{ℕ, _*_, _≤_}
 use native.Mathlib.Omega.{arith}
 use lib.IntN.{ℤ, pos}
 use lib.ListN.{length, take, replicate, length-replicate}
-use Rattle.entries.specs.Words.{wordsFor, amountsFor, RoomFor, entriesOf}
+use Rattle.entries.specs.InsideWords.{wordsFor, amountsFor, RoomFor, entriesOf}
 use Rattle.bill_files.specs.Accepted.{BillFile}
 use Rattle.entries.proofs.Words.{length-entries, take-entries}
 use Rattle.entries.proofs.Room.{room-fewer, room-none, room-zeros}
 use Rattle.soundness.specs.Sound.{sizesFit, isSound}
-use Rattle.soundness.specs.Room.{LedgerRoom}
+use Rattle.soundness.specs.InsideRoom.{LedgerRoom}
 use Rattle.soundness.proofs.Meaning.{sound-means}
 use Rattle.soundness.proofs.Sizes.{sizes-mean, room-in-use}
 use Rattle.booking.specs.Booking.{ledgerRefusals}
-use Rattle.book.specs.Book.{FileRoom}
+use Rattle.book.specs.InsideBook.{FileRoom}
 
 module _ (words : List ℕ) (amounts : List ℤ) (places used : ℕ) where
   -- room for the run is room for what is read of it

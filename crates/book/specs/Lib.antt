@@ -1,2 +1,2 @@
-pub mod Book
-pub mod Calls
+pub mod InsideBook
+pub mod InsideCalls

@@ -16,7 +16,7 @@ use Rattle.lists.specs.Selections.{filter, any, all, distinct}
 use Rattle.lists.proofs.Selections.{from-true, not-false, and-both, and-right, cases, neither}
 use Rattle.records.specs.Text.{linesOf}
 use Rattle.bill_files.specs.Accepted.{Bill, BillFile, billFile, billsIn, idIn}
-use Rattle.bill_files.specs.Fits.{BillFits, FileFits, Distinct}
+use Rattle.bill_files.specs.InsideFits.{BillFits, FileFits, Distinct}
 use Rattle.format.specs.Format.{lineAt}
 use Rattle.bill_files.specs.Passing.{Passing}
 use Rattle.bill_files.proofs.Accepted.{bill-ids, bill-fits, file-fits}
@@ -26,7 +26,7 @@ use Rattle.soundness.specs.Sound.{entryFits, opposite}
 use Rattle.soundness.specs.Meaning.{EntryFits}
 use Rattle.soundness.proofs.Meaning.{entry-means}
 use Rattle.booking.specs.Booking.{cancels, entry, fileEntry, orZero, namedEntry, cancelNamed, firstCancel, isUnnamed, isUnopposed, firstUnnamed, firstUnopposed, isStored, hasStored, Input, fileOf, ledgerOf, isBooked}
-use Rattle.booking.specs.Passes.{Key, sameKey, keyOf, keys, billFits, isOpposed, AllNamed, Passes}
+use Rattle.booking.specs.InsidePasses.{Key, sameKey, keyOf, keys, billFits, isOpposed, AllNamed, Passes}
 use Rattle.booking.specs.Acceptable.{noBill, billAt}
 use Rattle.booking.proofs.Accepting.{LedgerPasses, search-on, accepted-unrefused}
 

@@ -15,7 +15,8 @@ use Rattle.lists.specs.Selections.{all}
 use Rattle.lists.proofs.Selections.{not-false}
 use Rattle.records.specs.Text.{linesOf}
 use Rattle.refusals.specs.declared.Outcome.{Outcome}
-use Rattle.refusals.specs.Refusals.{Refusal, numbersOf}
+use Rattle.refusals.specs.Refusals.{Refusal}
+use Rattle.refusals.specs.InsideNumbers.{numbersOf}
 use Rattle.refusals.specs.Check.{formatRefusals, orderRefusals, identityRefusals, headerRefusals, periodRefusals, siteRefusals, periodTotalRefusals, trailerRefusals, childRefusals, totalRefusals, testsTo12, testsFrom14, settingsFit, isTooLarge}
 use Rattle.refusals.proofs.Outcomes.{tests-parts}
 use Rattle.refusals.proofs.Refusals.{NoneOf, none-passes, passes-none, append-none, none-append, appliesAt, applies-at, AllOf, Unlike, numbers-unlike}

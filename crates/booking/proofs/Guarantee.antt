@@ -13,7 +13,7 @@ use Rattle.lists.proofs.Selections.{cases}
 use Rattle.bill_files.specs.Accepted.{Bill, BillFile}
 use Rattle.entries.specs.declared.Entry.{Entry}
 use Rattle.booking.specs.Booking.{fileOf, ledgerOf, isBooked, runAfter, usedAfter}
-use Rattle.booking.specs.Passes.{Passes}
+use Rattle.booking.specs.InsidePasses.{Passes}
 use Rattle.booking.specs.Guarantee.{Call, Calls, isAccepted, acceptedFiles, booking, names, Status, held, live, cancelling, Standing, isHeldAtTurn, turns, archive, statusAt, Guarantee, Guaranteed}
 use Rattle.booking.proofs.AcceptedFile.{accepted-passes}
 use Rattle.booking.proofs.Turns.{bills-turns, Once}

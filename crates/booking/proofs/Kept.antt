@@ -18,9 +18,9 @@ use Rattle.bill_files.specs.Accepted.{Bill, BillFile}
 use Rattle.entries.specs.declared.Entry.{Entry}
 use Rattle.entries.specs.Entries.{blank, entryOf, isLive, isPeriod, period, inState}
 use Rattle.soundness.specs.Sound.{entryFits, isLivePeriod}
-use Rattle.booking.specs.Kept.{LiveOn, Paired, EntriesSound}
+use Rattle.booking.specs.InsideKept.{LiveOn, Paired, EntriesSound}
 use Rattle.booking.specs.Booking.{cancels, originals, entry, fileEntry, namedEntry, cancelNamed, overlaps, firstOverlap, stateOf, original, bookCancels, bookOriginals, booked}
-use Rattle.booking.specs.Passes.{Key, keyOf, entryKey, keys, billFits, isOpposed, AllNamed, Passes}
+use Rattle.booking.specs.InsidePasses.{Key, keyOf, entryKey, keys, billFits, isOpposed, AllNamed, Passes}
 use Rattle.booking.proofs.KeptPlaces.{place-some}
 use Rattle.soundness.proofs.Meaning.{entry-means}
 use Rattle.booking.proofs.Names.{names-standing, names-pairs}

@@ -9,7 +9,7 @@ use lib.ListN.{length, set, length-set, List·getD-append}
 use Rattle.entries.specs.declared.Entry.{Entry}
 use Rattle.entries.specs.Entries.{blank, entryOf, inState}
 use Rattle.soundness.specs.Meaning.{EntryFits}
-use Rattle.booking.specs.Kept.{LiveOn, EntriesSound}
+use Rattle.booking.specs.InsideKept.{LiveOn, EntriesSound}
 use Rattle.booking.proofs.KeptPlaces.{longer-each, changed-each}
 
 -- the sentences of `EntriesSound` but for those of cancels and cancelled entries

@@ -14,7 +14,7 @@ use Rattle.bill_files.specs.Accepted.{Bill}
 use Rattle.entries.specs.declared.Entry.{Entry}
 use Rattle.entries.specs.Entries.{blank, entryOf}
 use Rattle.booking.specs.Booking.{namesEntry, cancelNamed, isStored}
-use Rattle.booking.specs.Passes.{Key, sameKey, keyOf, entryKey}
+use Rattle.booking.specs.InsidePasses.{Key, sameKey, keyOf, entryKey}
 use Rattle.booking.proofs.KeptPlaces.{no-place}
 
 same-key : (k m : Key) → sameKey k m ≡ true → k ≡ m

@@ -14,7 +14,7 @@ use Rattle.soundness.specs.Sound.{entriesSound}
 use Rattle.soundness.specs.Meaning.{Alike, Names, Opposite, Sound}
 use Rattle.soundness.specs.Meaning as meaning
 use Rattle.soundness.proofs.Meaning.{entries-mean}
-use Rattle.booking.specs.Kept.{LiveOn, Paired, EntriesSound}
+use Rattle.booking.specs.InsideKept.{LiveOn, Paired, EntriesSound}
 use Rattle.booking.proofs.Opposites.{opposite-of}
 
 -- ---- a pair

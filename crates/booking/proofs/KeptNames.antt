@@ -13,7 +13,7 @@ use Rattle.entries.specs.declared.Entry.{Entry}
 use Rattle.entries.specs.Entries.{entryOf, inState}
 use Rattle.soundness.specs.Sound.{opposite}
 use Rattle.booking.specs.Booking.{entry, namesEntry, namedEntry, cancelNamed}
-use Rattle.booking.specs.Passes.{isOpposed, AllNamed}
+use Rattle.booking.specs.InsidePasses.{isOpposed, AllNamed}
 
 -- the place of the named entry, which has the opposite amounts, and the ledger with it in state 3
 pub record NamedAt (c : Bill) (l : List Entry) : Type 0 where

@@ -7,7 +7,7 @@ use native.Mathlib.Omega.{arith}
 use lib.ListN.{length, set, length-append, length-set, List·getD-append}
 use Rattle.entries.specs.declared.Entry.{Entry}
 use Rattle.entries.specs.Entries.{blank, entryOf, inState}
-use Rattle.booking.specs.Kept.{Paired, EntriesSound}
+use Rattle.booking.specs.InsideKept.{Paired, EntriesSound}
 use Rattle.booking.proofs.KeptPlaces.{longer-each, changed-each}
 use Rattle.booking.proofs.KeptEntries.{separate, one-place}
 

@@ -17,7 +17,7 @@ use Rattle.lists.proofs.Selections.{and-left, and-right, and-both}
 use Rattle.entries.specs.declared.Entry.{Entry}
 use Rattle.soundness.specs.Sound.{sizesFit, entriesSound, isSound}
 use Rattle.soundness.proofs.Meaning.{empty-sound}
-use Rattle.booking.specs.Kept.{EntriesSound}
+use Rattle.booking.specs.InsideKept.{EntriesSound}
 use Rattle.booking.specs.Booking.{Input, fileOf, ledgerOf, isBooked, ledgerAfter, Result, resultOf, usedAfter, runAfter}
 use Rattle.booking.specs.Guarantee.{Call, Calls}
 use Rattle.booking.proofs.Kept.{kept}

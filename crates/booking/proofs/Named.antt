@@ -13,7 +13,7 @@ use lib.IntN.{ℤ, negℤ, _+ℤ_, +ℤ-idr, +ℤ-assoc, +ℤ-comm, +ℤ-negℤ-
 use Rattle.lists.specs.Selections.{filter, any, all, count, sum}
 use Rattle.lists.proofs.Selections.{and-left, and-right, and-both, is-true, both, is-false, neither, map-append, filter-append, any-append, count-append, count-mono, the-one, sum-append}
 use Rattle.bill_files.specs.Accepted.{Bill}
-use Rattle.booking.specs.Passes.{Key, sameKey, keyOf}
+use Rattle.booking.specs.InsidePasses.{Key, sameKey, keyOf}
 use Rattle.booking.specs.Guarantee.{fits, names, Opposite, Status, live, held, cancelled, cancelling, isLiveStatus, isHeldStatus, Standing, standing, isHeldAtTurn, atTurn, isUncancelled, turn, turns, liveOf, heldOf}
 use Rattle.booking.proofs.Turns.{turn-original, bills, bills-turn, referenceKey, Once, key-same, fits-key, fits-once, has, once-left, once-turn, namedStanding, Named, NoneNamed, named-or-none, chosen-with, chosen-left, chosen-after-cancel}
 use Rattle.booking.proofs.Statuses.{names-fits}

@@ -17,7 +17,7 @@ use Rattle.soundness.specs.Sound.{sameSubject, opposite}
 use Rattle.soundness.proofs.Meaning.{alike-means, opposite-means}
 use Rattle.booking.specs.Booking.{entry, orZero, refersTo, isLiveOrHeld, namesEntry}
 use Rattle.booking.specs.Acceptable.{Names}
-use Rattle.booking.specs.Kept.{Paired}
+use Rattle.booking.specs.InsideKept.{Paired}
 use Rattle.booking.proofs.Opposites.{opposite-of}
 
 refers-means : (r : Option ℕ) (n : ℕ) → (refersTo r n ≡ true) ↔ (r ≡ some n)

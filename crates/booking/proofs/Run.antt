@@ -11,7 +11,7 @@ use Rattle.lists.proofs.Selections.{all-filter, sum-append, sum-split}
 use Rattle.bill_files.specs.Accepted.{Bill, BillFile}
 use Rattle.entries.specs.declared.Entry.{Entry}
 use Rattle.booking.specs.Booking.{cancels, originals, booked}
-use Rattle.booking.specs.Passes.{Passes}
+use Rattle.booking.specs.InsidePasses.{Passes}
 use Rattle.booking.specs.Guarantee.{booking, Standing, turns, archive}
 use Rattle.booking.proofs.Turns.{turns-append, bills, bills-turns, Once}
 use Rattle.booking.proofs.Stored.{Stores, stores-booked}

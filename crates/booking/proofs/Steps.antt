@@ -15,7 +15,7 @@ use Rattle.entries.specs.Entries.{isHeld}
 use Rattle.booking.specs.declared.Answer.{Answer}
 use Rattle.booking.specs.declared.Answer.the-variants.{Refused, Accepted}
 use Rattle.booking.specs.Booking.{Input, fileOf, ledgerOf, bookRefusal, isBooked, ledgerAfter, addedBy, Result, refusedResult, acceptedResult, resultOf, bookResult, usedAfter, runAfter}
-use Rattle.booking.specs.Passes.{Passes}
+use Rattle.booking.specs.InsidePasses.{Passes}
 use Rattle.booking.specs.Guarantee.{isAccepted}
 use Rattle.booking.proofs.Added.{length-booked, added-count}
 

@@ -13,7 +13,7 @@ use Rattle.lists.proofs.Selections.{is-true, both, is-false, cases, count-map, 
 use Rattle.bill_files.specs.Accepted.{Bill, BillFile}
 use Rattle.entries.specs.declared.Entry.{Entry}
 use Rattle.booking.specs.Booking.{cancels, originals, entry, namesEntry, namedEntry, cancelNamed, isStored}
-use Rattle.booking.specs.Passes.{Key, sameKey, keyOf, entryKey, keys, isOpposed, AllNamed, Passes}
+use Rattle.booking.specs.InsidePasses.{Key, sameKey, keyOf, entryKey, keys, isOpposed, AllNamed, Passes}
 use Rattle.booking.specs.Guarantee.{fits, Standing, isUncancelled, turn}
 use Rattle.booking.proofs.Turns.{bills, Once, has, same-key, key-same, namedStanding}
 use Rattle.booking.proofs.Stored.{code, entryNow, isRecord, Stores, names-now, names-record, stores-cancel}

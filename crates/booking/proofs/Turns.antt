@@ -13,7 +13,7 @@ use Rattle.lists.specs.Selections.{filter, count}
 use Rattle.lists.proofs.Selections.{is-true, from-true, both, cases, and-left, and-right, map-append, filter-append, count-append, count-mono}
 use Rattle.bill_files.specs.Accepted.{Bill}
 use Rattle.booking.specs.Booking.{orZero, refersTo}
-use Rattle.booking.specs.Passes.{Key, sameKey, keyOf}
+use Rattle.booking.specs.InsidePasses.{Key, sameKey, keyOf}
 use Rattle.booking.specs.Guarantee.{fits, cancelled, cancelling, Standing, standing, atTurn, isUncancelled, cancelFitting, turn, turns}
 
 -- ---- a turn, for a cancel and for an original

@@ -2,5 +2,5 @@ pub mod Acceptable
 pub mod Booking
 pub mod Calls
 pub mod Guarantee
-pub mod Kept
-pub mod Passes
+pub mod InsideKept
+pub mod InsidePasses

@@ -17,8 +17,8 @@ use lib.ListN.{length, length-set, getD, set}
 use lib.Seq.{getD-set-same, getD-set-other}
 use Rattle.lists.specs.Below.{firstBelow}
 use Rattle.lists.proofs.Below.{first-is, none-is-end}
-use Rattle.buckets.specs.Buckets.{bucketOf}
-use Rattle.buckets.specs.Chains.{bucketAt, Latest, Headed, Linked, ChainRoom, Chained, Only, Walked}
+use Rattle.buckets.specs.InsideBuckets.{bucketOf}
+use Rattle.buckets.specs.InsideChains.{bucketAt, Latest, Headed, Linked, ChainRoom, Chained, Only, Walked}
 
 -- ---- one place more
 module _ (size : ℕ) (value : ℕ → ℕ) where

@@ -19,7 +19,7 @@ use lib.Seq.{getD-set-same, getD-set-other}
 use Rattle.lists.specs.Below.{firstBelow}
 use Rattle.lists.proofs.Column.{everywhere}
 use Rattle.lists.proofs.Below.{first-at-most, first-holds, first-least, first-is, none-below}
-use Rattle.buckets.specs.Buckets.{firstPlace, Led}
+use Rattle.buckets.specs.InsideBuckets.{firstPlace, Led}
 
 -- ---- the first place
 module _ (f : ℕ → Bool) (n : ℕ) where

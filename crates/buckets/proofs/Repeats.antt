@@ -12,8 +12,8 @@ use lib.Dec.{eqb}
 use lib.ListN.{getD}
 use Rattle.lists.specs.Below.{firstBelow}
 use Rattle.lists.proofs.Below.{first-holds, first-least, none-below}
-use Rattle.buckets.specs.Buckets.{firstPlace, Distinct}
-use Rattle.buckets.specs.Trees.{repeatsAt}
+use Rattle.buckets.specs.InsideBuckets.{firstPlace, Distinct}
+use Rattle.buckets.specs.InsideTrees.{repeatsAt}
 
 module _ (values : List ℕ) (n : ℕ) where
   abbrev same : ℕ → ℕ → Bool

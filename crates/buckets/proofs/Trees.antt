@@ -22,10 +22,10 @@ use lib.ListN.{length, length-set, getD, set}
 use lib.Seq.{getD-set-same, getD-set-other}
 use Rattle.lists.specs.Below.{firstBelow}
 use Rattle.lists.proofs.Below.{first-at-most, first-holds, first-least, first-is, none-below, none-is-end}
-use Rattle.buckets.specs.Buckets.{firstPlace, Leads, Led, bucketOf}
+use Rattle.buckets.specs.InsideBuckets.{firstPlace, Leads, Led, bucketOf}
 use Rattle.buckets.proofs.Laws.{led-more}
 use Rattle.buckets.specs.declared.Spot.{Spot}
-use Rattle.buckets.specs.Trees.{restAt, slotAt, Passed, Found, Indexed, Searched, repeatsAt}
+use Rattle.buckets.specs.InsideTrees.{restAt, slotAt, Passed, Found, Indexed, Searched, repeatsAt}
 
 abbrev here : List ℕ → ℕ → ℕ → Bool
 here values x j = eqb (getD values j 0) x

@@ -1,3 +1,3 @@
-pub mod Buckets
-pub mod Chains
-pub mod Trees
+pub mod InsideBuckets
+pub mod InsideChains
+pub mod InsideTrees

@@ -4,10 +4,10 @@
 ghost use mathlib.Core.Path.{_≡_};
 ghost use Prim.Native.Nat.{ℕ, _+_, _-_, _*_, _≤_, _<_};
 ghost use lib.ListN.{length, getD};
-ghost use Rattle.buckets.specs.Buckets.{firstPlace, Led, bucketOf};
+ghost use Rattle.buckets.specs.InsideBuckets.{firstPlace, Led, bucketOf};
 ghost use Rattle.lists.specs.Below.{firstBelow};
-ghost use Rattle.buckets.specs.Trees.{Indexed, Searched, repeatsAt};
-ghost use Rattle.buckets.specs.Chains.{ChainRoom, Pushed};
+ghost use Rattle.buckets.specs.InsideTrees.{Indexed, Searched, repeatsAt};
+ghost use Rattle.buckets.specs.InsideChains.{ChainRoom, Pushed};
 
 // The bucket of a value, of so many.
 pub fn bucket(value: u64, size: usize) -> usize

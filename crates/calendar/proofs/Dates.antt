@@ -23,7 +23,7 @@ use Rattle.calendar.specs.declared.DateTime.the-variants.{Second, NotADa
 use Rattle.calendar.specs.declared.Day.{Day}
 use Rattle.calendar.specs.declared.Day.the-variants.{At, NotADate}
 use Rattle.calendar.specs.Calendar.{daysIn, monthDays, firstDay, monthOf, isDate, dayAt, numberDay, dayOf, isTime, secondOf, onDay, dateTimeOf}
-use Rattle.calendar.specs.Dates.{Date, date, dayOfDate, nextDate, dateAfter}
+use Rattle.calendar.specs.InsideDates.{Date, date, dayOfDate, nextDate, dateAfter}
 use Rattle.calendar.proofs.Days.{first-order, before-end, month-some}
 
 pub first-date : dayAt 2000 1 1 ≡ At 0

@@ -13,7 +13,8 @@ use native.Mathlib.Omega.{arith}
 use borrow.Author.Tests.{ltb-true, ltb-false}
 use lib.Dec.{ltb, eqb}
 use lib.ListN.{length, getD}
-use Rattle.calendar.specs.Calendar.{leapYear, monthDays, firstDay, daysFrom, firstDays}
+use Rattle.calendar.specs.Calendar.{leapYear, monthDays, firstDay}
+use Rattle.calendar.specs.InsideFirstDays.{daysFrom, firstDays}
 
 entry : (n i k : ℕ) → k < n → getD (daysFrom n i (firstDay i)) k 0 ≡ firstDay (i + k)
 unfolding daysFrom firstDay

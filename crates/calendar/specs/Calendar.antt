@@ -2,7 +2,7 @@
 -- Months are counted from January 2000, which is 0, and days from 1 January 2000, which is 0.
 -- Assumes nothing.
 use Prim.Native.Nat.{ℕ, zero, suc, _+_, _-_, _*_, _/_, _%_}
-use mathlib.Core.List.{List, [], _∷_}
+use mathlib.Core.List.{List}
 use mathlib.Core.Bool.{Bool, cond, _&&_, _||_, not}
 use lib.ListN.{length, take, drop}
 use lib.Dec.{eqb, leb}
@@ -29,14 +29,6 @@ monthDays k = daysIn (2000 + k / 12) (k % 12)
 unfoldable pub firstDay : ℕ → ℕ
 firstDay zero = 0
 firstDay (suc k) = firstDay k + monthDays k
-
--- n entries of the table from month i on, which starts on day `day`
-unfoldable pub daysFrom : ℕ → ℕ → ℕ → List ℕ
-daysFrom zero i day = []
-daysFrom (suc n) i day = day ∷ daysFrom n (suc i) (day + monthDays i)
-
-unfoldable pub firstDays : List ℕ
-firstDays = daysFrom 1200 0 0
 
 -- ---- dates
 -- the month that a year and a month of 1 to 12 name

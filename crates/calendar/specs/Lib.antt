@@ -1,3 +1,4 @@
 pub mod Calendar
-pub mod Dates
+pub mod InsideDates
+pub mod InsideFirstDays
 pub mod Periods

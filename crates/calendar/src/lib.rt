@@ -1,7 +1,8 @@
 // Days of the years 2000 to 2099, dates and date times, and periods of days. Day 0 is 1 January 2000.
 ghost use mathlib.Core.Path.{_≡_};
 ghost use Prim.Native.Nat.{_≤_, _<_, min, max};
-ghost use Rattle.calendar.specs.Calendar.{leapYear, monthDays, firstDay, firstDays, dateDay, dayOf, atTime, dateTimeOf};
+ghost use Rattle.calendar.specs.Calendar.{leapYear, monthDays, firstDay, dateDay, dayOf, atTime, dateTimeOf};
+ghost use Rattle.calendar.specs.InsideFirstDays.{firstDays};
 ghost use Rattle.calendar.specs.Periods.{sharesDay};
 use digits::Number;
 

@@ -17,8 +17,8 @@ use lib.ListN.{length, getD, List·getD-eq-default}
 use Rattle.lists.proofs.Table.{every, every-at}
 use Rattle.lists.specs.Written.{written}
 use Rattle.format.specs.Format.{commodityFields, unitFields, cancelFields, exemptionFields}
-use Rattle.readings.specs.LeadingBytes.{packed}
-use Rattle.codes_and_rows.specs.Numbers.{isEither, codesStand}
+use Rattle.readings.specs.InsideLeadingBytes.{packed}
+use Rattle.codes_and_rows.specs.InsideNumbers.{isEither, codesStand}
 
 -- ---- lists of fields
 pub table-at : (f : ℕ → ℕ) (xs : List ℕ) → T (every (λ (k x : ℕ). eqb x (f k)) 0 xs) → ((k : ℕ) → length xs ≤ k → f k ≡ 0) → (k : ℕ) → getD xs k 0 ≡ f k

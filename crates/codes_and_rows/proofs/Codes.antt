@@ -22,9 +22,9 @@ use Rattle.records.proofs.Laws.{fields-few, field-at}
 use Rattle.tables.specs.Tables.{fieldCount, fieldType}
 use Rattle.tables.proofs.Laws.{count-most}
 use Rattle.format.specs.Format.{commodityFields, unitFields, cancelFields, exemptionFields, neither, miscoded}
-use Rattle.readings.specs.LeadingBytes.{packed}
-use Rattle.codes_and_rows.specs.Fields.{FieldFits, fieldAfter, NumbersRead}
-use Rattle.codes_and_rows.specs.Numbers.{isEither, codesStand, unitIf}
+use Rattle.readings.specs.InsideLeadingBytes.{packed}
+use Rattle.codes_and_rows.specs.InsideFields.{FieldFits, fieldAfter, NumbersRead}
+use Rattle.codes_and_rows.specs.InsideNumbers.{isEither, codesStand, unitIf}
 use Rattle.codes_and_rows.proofs.Texts.{Printable, printable-text, printable-field, packed-is}
 use Rattle.codes_and_rows.proofs.FieldKinds.{hasKind, kind-at, isShortText, says-text, commodity-kind, unit-kind, cancel-kind, exemption-kind}
 

@@ -26,9 +26,9 @@ use Rattle.fields.specs.Fields.{fitsType}
 use Rattle.tables.specs.Tables.{fieldCount, fieldType}
 use Rattle.format.specs.Format.{commodityFields, unitFields, cancelFields, exemptionFields}
 use Rattle.columns.specs.Columns.{fieldTable, fieldOf, heldNumber, heldDay}
-use Rattle.readings.specs.LeadingBytes.{packed}
-use Rattle.readings.specs.AmountReadings.{signedOf}
-use Rattle.readings.specs.Readings.{Says}
+use Rattle.readings.specs.InsideLeadingBytes.{packed}
+use Rattle.readings.specs.InsideAmountReadings.{signedOf}
+use Rattle.readings.specs.InsideReadings.{Says}
 
 -- ---- the field k of a type, counted from 1, is of a kind; there is no field 0
 abbrev pub hasKind : (FieldType → Bool) → ℕ → ℕ → Bool

@@ -16,10 +16,10 @@ use lib.ListN.{length, getD, set}
 use Rattle.lists.proofs.AllBelow.{at-below}
 use Rattle.lists.proofs.Table.{every, tabulate-at}
 use Rattle.columns.specs.Columns.{fieldTable, fieldOf}
-use Rattle.columns.specs.Rows.{RowStored}
+use Rattle.columns.specs.InsideRows.{RowStored}
 use Rattle.columns.proofs.Rows.{row-none, row-more}
-use Rattle.readings.specs.LeadingBytes.{packedAfter}
-use Rattle.codes_and_rows.specs.Numbers.{fieldNumber, columnNumber, columnNumbers}
+use Rattle.readings.specs.InsideLeadingBytes.{packedAfter}
+use Rattle.codes_and_rows.specs.InsideNumbers.{fieldNumber, columnNumber, columnNumbers}
 use Rattle.codes_and_rows.proofs.CodeFields.{small-at}
 
 -- ---- the columns' fields

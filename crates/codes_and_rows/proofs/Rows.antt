@@ -18,10 +18,10 @@ use Rattle.amounts.specs.Amounts.{amountOf, units}
 use Rattle.records.specs.Records.{field, typeIn}
 use Rattle.tables.specs.Tables.{fieldCount, fieldType}
 use Rattle.columns.specs.Columns.{fieldOf, heldNumber, heldDay, heldCancel, held, numberIn, chargeIn, usageIn, charge, usage}
-use Rattle.readings.specs.LeadingBytes.{packed, packedAfter}
-use Rattle.readings.specs.AmountReadings.{signedOf}
-use Rattle.codes_and_rows.specs.Fields.{NumbersRead}
-use Rattle.codes_and_rows.specs.Numbers.{fieldNumber, columnNumber, columnNumbers, columnAmount}
+use Rattle.readings.specs.InsideLeadingBytes.{packed, packedAfter}
+use Rattle.readings.specs.InsideAmountReadings.{signedOf}
+use Rattle.codes_and_rows.specs.InsideFields.{NumbersRead}
+use Rattle.codes_and_rows.specs.InsideNumbers.{fieldNumber, columnNumber, columnNumbers, columnAmount}
 use Rattle.codes_and_rows.proofs.Texts.{Printable, printable-text, packed-is}
 use Rattle.codes_and_rows.proofs.FieldKinds.{hasKind, kind-at, isId, isDate, isShortText, isCharge, isUsage, says-id, says-date, says-charge, says-usage, column-kind}
 use Rattle.codes_and_rows.proofs.Codes.{stands-at, field-printable, text-number}

@@ -23,8 +23,8 @@ use Rattle.lists.proofs.Table.{every, every-at, and-left, and-right}
 use Rattle.records.specs.Text.{onto, cut}
 use Rattle.digits.proofs.Laws.{both-true}
 use Rattle.format.specs.Format.{isPrintable}
-use Rattle.readings.specs.LeadingBytes.{packed, packedAfter}
-use Rattle.codes_and_rows.specs.Fields.{fieldAfter}
+use Rattle.readings.specs.InsideLeadingBytes.{packed, packedAfter}
+use Rattle.codes_and_rows.specs.InsideFields.{fieldAfter}
 
 abbrev pub Printable : List ℕ → Type 0
 Printable s = (i : ℕ) → i < length s → (32 ≤ getD s i 0) × (getD s i 0 ≤ 126)

@@ -1,2 +1,2 @@
-pub mod Fields
-pub mod Numbers
+pub mod InsideFields
+pub mod InsideNumbers

@@ -5,9 +5,10 @@ ghost use lib.Dec.{eqb};
 ghost use Prim.Native.Nat.{_+_, _≤_, _<_};
 ghost use lib.ListN.{length, getD, set};
 ghost use Rattle.format.specs.Format.{commodityFields, unitFields, cancelFields, exemptionFields};
-ghost use Rattle.columns.specs.Columns.{Room, charge, usage};
-ghost use Rattle.columns.specs.Rows.{columnFields, RowStored};
-ghost use Rattle.codes_and_rows.specs.Numbers.{codesStand, unitIf, columnNumbers, columnAmount};
+ghost use Rattle.columns.specs.InsideColumns.{Room};
+ghost use Rattle.columns.specs.Columns.{charge, usage};
+ghost use Rattle.columns.specs.InsideRows.{columnFields, RowStored};
+ghost use Rattle.codes_and_rows.specs.InsideNumbers.{codesStand, unitIf, columnNumbers, columnAmount};
 
 // The field of a type, counted from 1, that has each code of test 7; 0 where the type has none.
 fn commodity_field(record_type: u64) -> usize

@@ -21,7 +21,8 @@ use Rattle.digits.specs.Digits.{digitsOf}
 use Rattle.digits.proofs.Laws.{ten-room, digits-say, digits-bound}
 use Rattle.amounts.specs.Amounts.{amountOf, units}
 use Rattle.amounts.proofs.Laws.{units-bound}
-use Rattle.columns.specs.Columns.{heldNumber, heldDay, fieldIn, charge, usage, numberIn, chargeIn, usageIn, columnAt, ColumnsRead}
+use Rattle.columns.specs.Columns.{heldNumber, heldDay, fieldIn, charge, usage, numberIn, chargeIn, usageIn}
+use Rattle.columns.specs.InsideColumns.{columnAt, ColumnsRead}
 
 -- ---- numbers that are held
 less-one : {A : Type 0} (value : ℕ → A) (m n : ℕ) → m + 1 ≡ suc n → value m ≡ value n

@@ -17,8 +17,9 @@ use lib.IntN.{ℤ, pos}
 use Rattle.lists.proofs.AllBelow.{at-below}
 use Rattle.lists.proofs.Column.{Filled, filled-none, filled-more, filled-end, filled-take}
 use Rattle.lists.proofs.Table.{tabulate-at}
-use Rattle.columns.specs.Columns.{fieldOf, numberIn, chargeIn, usageIn, columnAt, ColumnsRead}
-use Rattle.columns.specs.Rows.{fieldRow, columnFields, RowStored}
+use Rattle.columns.specs.Columns.{fieldOf, numberIn, chargeIn, usageIn}
+use Rattle.columns.specs.InsideColumns.{columnAt, ColumnsRead}
+use Rattle.columns.specs.InsideRows.{fieldRow, columnFields, RowStored}
 use Rattle.columns.proofs.Laws.{map-at}
 
 -- ---- the fields of the columns, by the table that is lent

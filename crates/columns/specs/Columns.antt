@@ -1,12 +1,11 @@
 -- The numbers and amounts of a record that tests read. A column has one of them for each record of a file.
 -- Assumes nothing.
-use Prim.Native.Nat.{ℕ, _+_, _*_, _≤_, _<_}
-use mathlib.Core.Path.{_≡_}
-use mathlib.Core.List.{List, [], _∷_, map}
-use mathlib.Core.Bool.{Bool, cond, _&&_}
-use lib.ListN.{length, getD, take, drop}
+use Prim.Native.Nat.{ℕ, _+_}
+use mathlib.Core.List.{List, [], _∷_}
+use mathlib.Core.Bool.{cond, _&&_}
+use lib.ListN.{getD}
 use lib.Dec.{eqb, ltb}
-use lib.IntN.{ℤ, pos}
+use lib.IntN.{ℤ}
 use Rattle.lists.specs.Bytes.{sameBytes}
 use Rattle.lists.specs.Written.{written}
 use Rattle.digits.specs.declared.Number.{Number}
@@ -102,18 +101,3 @@ chargeIn line = units (amountOf 11 2 (fieldIn charge line))
 -- of Number(13,4) and Number(14,4), which have the same places
 unfoldable pub usageIn : List ℕ → ℤ
 usageIn line = units (amountOf 14 4 (fieldIn usage line))
-
--- ---- the columns of a file
--- eight columns of numbers stand one after the other in one run of words, each of which has the room of a column of amounts
-pub record Room (n : ℕ) (words : List ℕ) (chargeColumn usageColumn : List ℤ) : Type 0 where
-  pub words-length : length words ≡ 8 * length chargeColumn
-  pub usages-length : length usageColumn ≡ length chargeColumn
-  pub few : n ≤ length chargeColumn
-
-abbrev pub columnAt : ℕ → ℕ → ℕ → List ℕ → List ℕ
-columnAt room column n words = take n (drop (column * room) words)
-
-pub record ColumnsRead (lines : List (List ℕ)) (words : List ℕ) (chargeColumn usageColumn : List ℤ) : Type 0 where
-  pub numbers : (column : ℕ) → column < 8 → columnAt (length chargeColumn) column (length lines) words ≡ map (numberIn column) lines
-  pub charges : take (length lines) chargeColumn ≡ map chargeIn lines
-  pub usages : take (length lines) usageColumn ≡ map usageIn lines

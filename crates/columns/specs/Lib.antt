@@ -1,2 +1,3 @@
 pub mod Columns
-pub mod Rows
+pub mod InsideColumns
+pub mod InsideRows

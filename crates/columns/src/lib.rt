@@ -2,8 +2,8 @@
 ghost use mathlib.Core.Path.{_≡_};
 ghost use Prim.Native.Nat.{_*_, _≤_, _<_};
 ghost use lib.ListN.{length};
-ghost use Rattle.columns.specs.Columns.{columnAt};
-ghost use Rattle.columns.specs.Rows.{columnFields};
+ghost use Rattle.columns.specs.InsideColumns.{columnAt};
+ghost use Rattle.columns.specs.InsideRows.{columnFields};
 
 // The columns of numbers. After them stand the two of amounts.
 pub const RECORD_TYPE: usize = 0;

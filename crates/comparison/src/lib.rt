@@ -3,7 +3,7 @@
 ghost use mathlib.Core.Path.{_≡_};
 ghost use Rattle.amounts.specs.Amounts.{isNumber, amountOf};
 ghost use Rattle.calendar.specs.Calendar.{dateTimeOf};
-ghost use Rattle.comparison.specs.Readings.{flag, amountNumber, unitsAfter, digitsFor, digitsNumber, valueAfter, dateTimeNumber, dayAfter, secondAfter, sharesDayOf};
+ghost use Rattle.comparison.specs.InsideReadings.{flag, amountNumber, unitsAfter, digitsFor, digitsNumber, valueAfter, dateTimeNumber, dayAfter, secondAfter, sharesDayOf};
 use amounts::Amount;
 use calendar::DateTime;
 use calendar::Period;

@@ -12,10 +12,10 @@ use lib.ListN.{length, replicate, length-replicate}
 use Rattle.lists.specs.Written.{written}
 use Rattle.entries.specs.declared.Entry.{Entry}
 use Rattle.entries.specs.Entries.{blank}
-use Rattle.entries.specs.Words.{wordsFor, amountsFor, entriesOf}
+use Rattle.entries.specs.InsideWords.{wordsFor, amountsFor, entriesOf}
 use Rattle.entries.proofs.Room.{room-zeros}
 use Rattle.entries.proofs.Words.{length-entries}
-use Rattle.soundness.specs.Room.{LedgerRoom}
+use Rattle.soundness.specs.InsideRoom.{LedgerRoom}
 use Rattle.soundness.specs.Sound.{sizesFit}
 use Rattle.booking.specs.Booking.{inputOf, Result, refusedResult, bookResult}
 use Rattle.booking.proofs.Lent.{same-result}

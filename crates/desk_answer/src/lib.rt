@@ -4,7 +4,7 @@ ghost use mathlib.Core.List.{[], _∷_, _++_};
 ghost use Prim.Native.Nat.{_+_, _≤_, _<_};
 ghost use lib.ListN.{length};
 ghost use Rattle.booking.specs.Booking.{resultOf};
-ghost use Rattle.writing.specs.Writing.{writtenAt, plainDigits};
+ghost use Rattle.writing.specs.InsideWriting.{writtenAt, plainDigits};
 ghost use Rattle.desk_answer.specs.Line.{codeNumber, acceptedLine, rejectedLine, lineOf};
 ghost use Rattle.desk_answer.specs.Desk.{deskResult};
 use booking::Answer;

@@ -8,7 +8,7 @@ use Prim.Native.Nat.{ℕ, _≤_}
 use native.Mathlib.Omega.{arith}
 use lib.IntN.{ℤ, pos}
 use lib.ListN.{length, replicate, length-replicate}
-use Rattle.entries.specs.Words.{wordsFor, amountsFor, RoomFor}
+use Rattle.entries.specs.InsideWords.{wordsFor, amountsFor, RoomFor}
 
 pub room-fewer : {m n : ℕ} {words : List ℕ} {amounts : List ℤ} → m ≤ n → RoomFor n words amounts → RoomFor m words amounts
 room-fewer h room = record { in-words = omega arith; in-amounts = omega arith }

@@ -16,7 +16,7 @@ use lib.ListN.{length, getD, set, take, length-set}
 use lib.Seq.{getD-set-same, getD-set-other, getD-take, length-take-le, ext-getD}
 use Rattle.entries.specs.declared.Entry.{Entry}
 use Rattle.entries.specs.Entries.{blank, entryOf}
-use Rattle.entries.specs.Words.{RoomFor, entryAt, writes, wordsAt, amountsAt, entriesFrom, entriesOf}
+use Rattle.entries.specs.InsideWords.{RoomFor, entryAt, writes, wordsAt, amountsAt, entriesFrom, entriesOf}
 use Rattle.entries.proofs.Room.{room-fewer}
 
 -- ---- a list after some stores

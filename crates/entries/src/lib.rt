@@ -3,7 +3,7 @@ ghost use mathlib.Core.Path.{_≡_};
 ghost use Prim.Native.Nat.{_+_};
 ghost use lib.ListN.{length};
 ghost use Rattle.entries.specs.Entries.{inState, period};
-ghost use Rattle.entries.specs.Words.{RoomFor, entryAt, writes, wordsAt, amountsAt};
+ghost use Rattle.entries.specs.InsideWords.{RoomFor, entryAt, writes, wordsAt, amountsAt};
 use calendar::Period;
 
 // The fields of document 01, and nothing else.

@@ -9,16 +9,16 @@ use Prim.Native.Nat.{ℕ, _+_, _≤_}
 use native.Mathlib.Omega.{arith}
 use lib.IntN.{ℤ}
 use lib.ListN.{length}
-use Rattle.entries.specs.Words.{RoomFor, entriesOf}
+use Rattle.entries.specs.InsideWords.{RoomFor, entriesOf}
 use Rattle.entries.proofs.Room.{room-none}
 use Rattle.entries.proofs.Words.{length-entries}
 use Rattle.soundness.specs.Sound.{sizesFit}
-use Rattle.soundness.specs.Room.{LedgerRoom}
+use Rattle.soundness.specs.InsideRoom.{LedgerRoom}
 use Rattle.booking.specs.declared.Answer.{Answer}
 use Rattle.booking.specs.Booking.{Input, inputOf, fileOf, ledgerOf, isBooked, ledgerAfter, resultOf, usedAfter}
 use Rattle.booking.proofs.Accepting.{accepted-unrefused}
 use Rattle.booking.proofs.Added.{length-booked}
-use Rattle.book.specs.Book.{Meets}
+use Rattle.book.specs.InsideBook.{Meets}
 
 pub room-read : {words : List ℕ} {amounts : List ℤ} (places used : ℕ) → RoomFor used words amounts → LedgerRoom places used words amounts
 room-read {words} {amounts} places used room = go (sizesFit places used)

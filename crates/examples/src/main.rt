@@ -4,7 +4,7 @@
 ghost use mathlib.Core.Path.{_≡_};
 ghost use Prim.Native.Nat.{_≤_};
 ghost use Rattle.io.specs.Counts.{Counts};
-ghost use Rattle.entries.specs.Words.{RoomFor};
+ghost use Rattle.entries.specs.InsideWords.{RoomFor};
 ghost use Rattle.booking.specs.Booking.{resultOf};
 use amounts::Amount;
 use amounts::Charge;

@@ -1,6 +1,6 @@
 // Which bytes fit which type of field.
 ghost use mathlib.Core.Path.{_≡_};
-ghost use Rattle.calendar.specs.Calendar.{firstDays};
+ghost use Rattle.calendar.specs.InsideFirstDays.{firstDays};
 ghost use Rattle.fields.specs.Fields.{isMoment, fitsType};
 ghost use Rattle.fields.specs.declared.FieldType.the-variants.{DateTime};
 

@@ -20,12 +20,12 @@ use Rattle.lists.proofs.Column.{stored}
 use Rattle.format.specs.Format.{lineAt}
 use Rattle.bill_files.specs.Accepted.{Bill, isBill, billIn, billsIn, billLines, billFile}
 use Rattle.entries.specs.declared.Entry.{Entry}
-use Rattle.entries.specs.Words.{entryAt, writes, wordsAt, amountsAt}
+use Rattle.entries.specs.InsideWords.{entryAt, writes, wordsAt, amountsAt}
 use Rattle.entries.proofs.Room.{room-fewer, room-same}
 use Rattle.entries.proofs.Words.{length-writes, written-here, written-elsewhere}
 use Rattle.booking.specs.Acceptable.{noBill, billAt}
-use Rattle.file_bills.specs.Bills.{sourceEntry, Source, heldReference, References}
-use Rattle.file_bills.specs.Reading.{billsOf, BillRoom, Reading}
+use Rattle.file_bills.specs.InsideBills.{sourceEntry, Source, heldReference, References}
+use Rattle.file_bills.specs.InsideReading.{billsOf, BillRoom, Reading}
 
 -- ---- one line more
 module _ (lines : List (List ℕ)) (i : ℕ) (h : i < length lines) where

@@ -23,8 +23,8 @@ use Rattle.records.specs.Records.{field, typeIn}
 use Rattle.columns.specs.Columns.{fieldOf, fieldIn, heldNumber, heldDay, held, numberIn, chargeIn, usageIn, reference, site, startDay, endDay, cancel}
 use Rattle.bill_files.specs.Accepted.{numberOrZero, numberOrNone, dayOrZero, senderIn, commodityIn, idIn, isPeriod, isBill, billIn}
 use Rattle.booking.specs.Booking.{orZero}
-use Rattle.file_bills.specs.Bills.{sourceEntry, heldReference}
-use Rattle.file_bills.specs.Reading.{entryFrom}
+use Rattle.file_bills.specs.InsideBills.{sourceEntry, heldReference}
+use Rattle.file_bills.specs.InsideReading.{entryFrom}
 
 -- ---- numbers that are held as themselves and one
 less : (n : ℕ) → n + 1 - 1 ≡ n

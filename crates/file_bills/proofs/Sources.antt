@@ -8,7 +8,7 @@ use lib.Dec.{eqb}
 use Rattle.bill_files.specs.Accepted.{Bill}
 use Rattle.entries.specs.declared.Entry.{Entry}
 use Rattle.booking.specs.Booking.{entry}
-use Rattle.file_bills.specs.Bills.{sourceEntry, isCancel}
+use Rattle.file_bills.specs.InsideBills.{sourceEntry, isCancel}
 
 pub source-cancel : (b : Bill) (e : Entry) → e ≡ sourceEntry b → isCancel e ≡ b .cancel
 source-cancel b e same = ap isCancel same ∙ go (b .cancel)

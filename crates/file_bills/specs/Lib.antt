@@ -1,2 +1,2 @@
-pub mod Bills
-pub mod Reading
+pub mod InsideBills
+pub mod InsideReading

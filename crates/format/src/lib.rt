@@ -4,7 +4,7 @@ ghost use mathlib.Core.Bool.{not};
 ghost use Prim.Native.Nat.{_≤_, _<_};
 ghost use lib.ListN.{length, getD};
 ghost use Rattle.lists.specs.Below.{someBelow};
-ghost use Rattle.records.specs.Text.{part};
+ghost use Rattle.records.specs.InsidePlacedLines.{part};
 ghost use Rattle.tables.specs.Types.{followTable};
 ghost use Rattle.format.specs.Format.{isPrintable, unformatted, misplaced, firstMisplaced};
 

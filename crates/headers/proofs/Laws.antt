@@ -14,7 +14,7 @@ use Rattle.lists.proofs.Reflected.{alike}
 use Rattle.digits.specs.declared.Number.{Number}
 use Rattle.digits.specs.Digits.{fixedDigitsOf}
 use Rattle.headers.specs.Headers.{isNumber}
-use Rattle.headers.specs.Steps.{isSender}
+use Rattle.headers.specs.InsideSteps.{isSender}
 
 pub one-more : (said m n : ℕ) → said ≡ m + 1 → eqb m n ≡ eqb said (n + 1)
 one-more said m n e =

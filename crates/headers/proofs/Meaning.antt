@@ -22,7 +22,7 @@ use Rattle.totals.proofs.Laws.{same-is as amounts-equal, is-same as equal-amoun
 use Rattle.records.specs.Records.{field}
 use Rattle.headers.specs.Headers.{isNumber, isOurs, isListed, countsRecords}
 use Rattle.headers.specs.Meaning.{Listed}
-use Rattle.headers.specs.Steps.{isGroup}
+use Rattle.headers.specs.InsideSteps.{isGroup}
 
 -- ---- test 11
 pub number-is : (n : ℕ) (read : Number) → isNumber n read ≡ true → read ≡ Value n

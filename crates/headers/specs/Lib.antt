@@ -1,3 +1,3 @@
 pub mod Headers
+pub mod InsideSteps
 pub mod Meaning
-pub mod Steps

@@ -6,10 +6,10 @@ ghost use lib.Dec.{eqb};
 ghost use lib.ListN.{length};
 ghost use lib.IntN.{pos};
 ghost use Rattle.lists.specs.Below.{someBelow};
-ghost use Rattle.readings.specs.AmountReadings.{signedOf};
+ghost use Rattle.readings.specs.InsideAmountReadings.{signedOf};
 ghost use Rattle.totals.specs.Totals.{sameℤ};
 ghost use Rattle.headers.specs.Headers.{isNumber};
-ghost use Rattle.headers.specs.Steps.{isSender};
+ghost use Rattle.headers.specs.InsideSteps.{isSender};
 use digits::Number;
 
 // Test 11: whether the retailer that the header says is the given one. A number is held as itself and one; 0 says none.

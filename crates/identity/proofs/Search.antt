@@ -10,7 +10,7 @@ use lib.ListN.{length, getD, replicate, length-replicate}
 use Rattle.lists.specs.Below.{firstBelow, someBelow}
 use Rattle.lists.proofs.Below.{first-same}
 use Rattle.buckets.proofs.Laws.{zeros}
-use Rattle.buckets.specs.Trees.{repeatsAt}
+use Rattle.buckets.specs.InsideTrees.{repeatsAt}
 use Rattle.identity.specs.Identity.{repeats, firstRepeated}
 
 module _ (ids : List ℕ) where

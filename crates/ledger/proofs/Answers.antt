@@ -10,7 +10,8 @@ use Rattle.ledger.specs.declared.Totals.{Totals}
 use Rattle.ledger.specs.declared.Totals.the-variants as totals
 use Rattle.ledger.specs.declared.Found.{Found}
 use Rattle.ledger.specs.declared.Found.the-variants as found
-use Rattle.ledger.specs.Ledger.{TotalsResult, resultOfTotals, FindResult, resultOfFound}
+use Rattle.ledger.specs.Ledger.{TotalsResult, FindResult}
+use Rattle.ledger.specs.InsideResults.{resultOfTotals, resultOfFound}
 
 -- ---- the answer, read back from its result
 abbrev totalsOf : TotalsResult → Totals

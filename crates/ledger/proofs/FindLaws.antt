@@ -16,12 +16,13 @@ use Rattle.lists.specs.Below.{firstBelow}
 use Rattle.lists.proofs.Below.{first-same}
 use Rattle.entries.specs.declared.Entry.{Entry}
 use Rattle.entries.specs.Entries.{entryOf}
-use Rattle.entries.specs.Words.{entryAt, entriesOf}
+use Rattle.entries.specs.InsideWords.{entryAt, entriesOf}
 use Rattle.entries.proofs.Words.{length-entries, entry-of}
 use Rattle.soundness.specs.Sound.{isSound}
 use Rattle.ledger.specs.declared.Found.{Found}
 use Rattle.ledger.specs.declared.Found.the-variants as found
-use Rattle.ledger.specs.Ledger.{isAskable, covers, placeOf, FindResult, findResultOf, resultOfFound, findResult}
+use Rattle.ledger.specs.Ledger.{isAskable, covers, placeOf, FindResult, findResultOf, findResult}
+use Rattle.ledger.specs.InsideResults.{resultOfFound}
 use Rattle.ledger.proofs.Answers.{found-answer}
 use Rattle.ledger.proofs.SoundLaws.{words-used}
 

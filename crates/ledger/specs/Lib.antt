@@ -1,3 +1,4 @@
-pub mod Bounds
+pub mod InsideBounds
+pub mod InsideResults
+pub mod InsideSteps
 pub mod Ledger
-pub mod Steps

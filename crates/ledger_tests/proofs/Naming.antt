@@ -24,16 +24,16 @@ use Rattle.lists.proofs.First.{Passed, passed-none, passed-over, passed-here, p
 use Rattle.bill_files.specs.Accepted.{Bill}
 use Rattle.entries.specs.declared.Entry.{Entry}
 use Rattle.entries.specs.Entries.{blank, entryOf, inState}
-use Rattle.entries.specs.Words.{entryAt, entriesOf}
+use Rattle.entries.specs.InsideWords.{entryAt, entriesOf}
 use Rattle.entries.proofs.Words.{length-entries, entry-of}
 use Rattle.soundness.specs.Sound.{sameSubject}
 use Rattle.booking.specs.Booking.{entry, namesEntry, refersTo, isLiveOrHeld, namedEntry, cancelNamed, firstCancel, isUnnamed}
 use Rattle.booking.specs.Acceptable.{billAt}
 use Rattle.booking.proofs.Added.{length-cancelled}
-use Rattle.used_entries.specs.Searches.{referenceOf, namesAs, namedFirst}
-use Rattle.file_bills.specs.Bills.{sourceEntry, isCancel, heldReference}
+use Rattle.used_entries.specs.InsideSearches.{referenceOf, namesAs, namedFirst}
+use Rattle.file_bills.specs.InsideBills.{sourceEntry, isCancel, heldReference}
 use Rattle.file_bills.proofs.Sources.{source-cancel, source-as}
-use Rattle.ledger_tests.specs.Tests.{cancelledBy, namedPlace, Named, Marked, names, Tried}
+use Rattle.ledger_tests.specs.InsideTests.{cancelledBy, namedPlace, Named, Marked, names, Tried}
 use Rattle.ledger_tests.proofs.Cancelled.{named-some, named-none, cancel-first, cancelled-here, cancelled-past}
 use Rattle.ledger_tests.proofs.Resumed.{Resumed, resumed-none, resumed-here, resumed-more}
 

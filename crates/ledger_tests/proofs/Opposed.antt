@@ -11,14 +11,14 @@ use lib.ListN.{length, getD, take}
 use Rattle.bill_files.specs.Accepted.{Bill}
 use Rattle.entries.specs.declared.Entry.{Entry}
 use Rattle.entries.specs.Entries.{entryOf}
-use Rattle.entries.specs.Words.{entryAt, entriesOf}
+use Rattle.entries.specs.InsideWords.{entryAt, entriesOf}
 use Rattle.entries.proofs.Words.{length-entries, entry-of}
 use Rattle.soundness.specs.Sound.{opposite}
 use Rattle.booking.specs.Booking.{entry, namedEntry, isUnopposed}
 use Rattle.booking.specs.Acceptable.{billAt}
-use Rattle.file_bills.specs.Bills.{sourceEntry, isCancel}
+use Rattle.file_bills.specs.InsideBills.{sourceEntry, isCancel}
 use Rattle.file_bills.proofs.Sources.{source-cancel, source-as}
-use Rattle.ledger_tests.specs.Tests.{cancelledBy, Named}
+use Rattle.ledger_tests.specs.InsideTests.{cancelledBy, Named}
 use Rattle.ledger_tests.proofs.Cancelled.{named-some, cancelled-length, cancelled-amounts}
 
 abbrev pub unopposedIn : List Entry → Bill → Bool

@@ -21,7 +21,7 @@ use Rattle.refusals.proofs.Joined.{stage-stops, stage-goes}
 use Rattle.bill_files.specs.Accepted.{BillFile}
 use Rattle.entries.specs.declared.Entry.{Entry}
 use Rattle.booking.specs.Booking.{fileEntry, hasFile, atBill, cancelRefusals, storageRefusals, ledgerRefusals}
-use Rattle.ledger_tests.specs.Bills.{Bills}
+use Rattle.ledger_tests.specs.InsideBills.{Bills}
 
 -- the sender and the Record ID that test 8 looks for are the file's
 pub has-file-is : (l : List Entry) (file : BillFile) (header : Entry) (r : Bool) → header ≡ fileEntry file

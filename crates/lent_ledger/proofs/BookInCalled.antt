@@ -29,14 +29,15 @@ use denote.Triple.Statement.{Contract, Triple}
 use denote.Triple.Clauses.{ensured, lasts}
 use denote.Triple.Walked.{says}
 use Rattle.entries.specs.declared.Entry.{Entry}
-use Rattle.entries.specs.Words.{RoomFor}
+use Rattle.entries.specs.InsideWords.{RoomFor}
 use Rattle.entries.proofs.Entry as T
-use Rattle.soundness.specs.Room.{readCount}
+use Rattle.soundness.specs.InsideRoom.{readCount}
 use Rattle.runs.proofs.Lent.{cites-by, words, lent, said, lends-got, lends-says, lends}
 use Rattle.booking.specs.Booking.{Input, inputOf, bookResult, runAfter}
 use Rattle.lent_ledger.specs.declared.BookReply.{BookReply}
-use Rattle.lent_ledger.specs.BookReplies.{bookReply, HostBooked, writtenTo, writtenFrom}
-use Rattle.lent_ledger.specs.Told.{Told}
+use Rattle.lent_ledger.specs.BookReplies.{bookReply, HostBooked}
+use Rattle.lent_ledger.specs.InsideWritten.{writtenTo, writtenFrom}
+use Rattle.lent_ledger.specs.InsideTold.{Told}
 use Rattle.records.specs.Text.{linesOf}
 use Rattle.lent_ledger.proofs.BookReply as R
 use Rattle.lent_ledger.proofs.book_in as book-in

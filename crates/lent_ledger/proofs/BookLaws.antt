@@ -25,11 +25,11 @@ use Rattle.bill_files.specs.Accepted.{Bill, BillFile, billFile}
 use Rattle.bill_files.proofs.Accepted.{bills-few}
 use Rattle.entries.specs.declared.Entry.{Entry}
 use Rattle.entries.specs.Entries.{blank, isHeld}
-use Rattle.entries.specs.Words.{RoomFor, entriesFrom, entriesOf}
+use Rattle.entries.specs.InsideWords.{RoomFor, entriesFrom, entriesOf}
 use Rattle.entries.proofs.Words.{length-entries, take-entries}
 use Rattle.entries.proofs.Room.{room-fewer}
 use Rattle.soundness.specs.Sound.{isSound, sizesFit, entriesSound}
-use Rattle.soundness.specs.Room.{readCount}
+use Rattle.soundness.specs.InsideRoom.{readCount}
 use Rattle.soundness.proofs.Sizes.{sizes-mean, room-in-use}
 use Rattle.booking.specs.Booking.{Settings, Input, inputOf, openingRefusals, bookRefusals, ledgerRefusals, Result, fileOf, ledgerOf, cancels, originals, fileEntry, entry, booked, bookRefusal, isBooked, ledgerAfter, addedBy, refusedResult, acceptedResult, resultOf, bookResult, usedAfter, runAfter, Booked}
 use Rattle.booking.proofs.Added.{cancelAll, cancelEntries, originalEntries, booked-parts, length-cancel-all, length-booked, added-count}
@@ -37,13 +37,14 @@ use Rattle.booking.proofs.Accepting.{accepted-unrefused}
 use Rattle.booking.proofs.AcceptedFile.{accepted-passes}
 use Rattle.booking.proofs.Lent.{same-result, unsound-same, unsound-result}
 use Rattle.booking.proofs.Steps.{refused-leaves, used-accepted, run-accepted, used-entries-after}
-use Rattle.runs.specs.Copies.{placed}
+use Rattle.runs.specs.InsideCopies.{placed}
 use Rattle.book.proofs.Rooms.{used-room}
 use Rattle.runs.proofs.Laws.{read-le, read-cap, read-below}
 use Rattle.runs.proofs.Sound.{loaded-cases}
 use Rattle.lent_ledger.specs.declared.BookReply.{BookReply}
-use Rattle.lent_ledger.specs.Told.{Told}
-use Rattle.lent_ledger.specs.BookReplies.{bookReply, answerOf, HostBooked, writtenTo, writtenFrom}
+use Rattle.lent_ledger.specs.InsideTold.{Told}
+use Rattle.lent_ledger.specs.BookReplies.{bookReply, answerOf, HostBooked}
+use Rattle.lent_ledger.specs.InsideWritten.{writtenTo, writtenFrom}
 
 -- ---- a call's result
 module _ (i : Input) where

@@ -28,8 +28,8 @@ use denote.Triple.Spec.{tripleOf}
 use denote.Triple.Statement.{Contract, Triple}
 use denote.Triple.Clauses.{ensured, lasts}
 use denote.Triple.Walked.{says}
-use Rattle.entries.specs.Words.{RoomFor, entriesOf}
-use Rattle.soundness.specs.Room.{readCount}
+use Rattle.entries.specs.InsideWords.{RoomFor, entriesOf}
+use Rattle.soundness.specs.InsideRoom.{readCount}
 use Rattle.runs.proofs.Lent.{cites, words, shared, shares-got, shares-says, shares}
 use Rattle.ledger.specs.Ledger.{findResult}
 use Rattle.lent_ledger.specs.declared.FindReply.{FindReply}

@@ -8,8 +8,8 @@ use Prim.Native.Nat.{ℕ}
 use lib.IntN.{ℤ}
 use lib.ListN.{length, take}
 use Rattle.entries.specs.declared.Entry.{Entry}
-use Rattle.entries.specs.Words.{entriesOf}
-use Rattle.soundness.specs.Room.{readCount}
+use Rattle.entries.specs.InsideWords.{entriesOf}
+use Rattle.soundness.specs.InsideRoom.{readCount}
 use Rattle.ledger.specs.Ledger.{sumsOf, noSums, totalsResult, isAskable, placeOf, placeWithin, findResultOf, findResult}
 use Rattle.runs.proofs.Sound.{loaded-alike}
 use Rattle.lent_ledger.specs.Replies.{totalsReply, findReply}

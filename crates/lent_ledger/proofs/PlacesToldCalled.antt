@@ -31,7 +31,7 @@ use denote.Triple.Walked.{says}
 use denote.RattleType.{owns}
 use Rattle.runs.proofs.Lent.{cites-by}
 use Rattle.records.specs.Text.{linesOf}
-use Rattle.lent_ledger.specs.Told.{Told}
+use Rattle.lent_ledger.specs.InsideTold.{Told}
 use Rattle.lent_ledger.proofs.places_told as places-told
 use Rattle.lent_ledger.proofs.places_told.Symbol.{name as #places-told}
 

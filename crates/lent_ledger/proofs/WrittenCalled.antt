@@ -30,10 +30,10 @@ use denote.Triple.Clauses.{ensured, lasts}
 use denote.Triple.Walked.{says}
 use denote.RattleType.{owns}
 use denote.Struct.Laws as LL
-use Rattle.entries.specs.Words.{RoomFor, entriesOf}
+use Rattle.entries.specs.InsideWords.{RoomFor, entriesOf}
 use Rattle.runs.proofs.Lent.{cites, words, shared, shares-got, shares-says, shares}
 use Rattle.lent_ledger.specs.declared.BookReply.{BookReply}
-use Rattle.lent_ledger.specs.BookReplies.{writtenTo, writtenFrom}
+use Rattle.lent_ledger.specs.InsideWritten.{writtenTo, writtenFrom}
 use Rattle.lent_ledger.proofs.BookReply as R
 use Rattle.lent_ledger.proofs.BookReply.Laws as R′
 use Rattle.lent_ledger.proofs.written_to as written-to

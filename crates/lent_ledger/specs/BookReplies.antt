@@ -1,13 +1,11 @@
--- The answer of Book as a host has it, what a call of Book on a lent run meets, and which places of the run are written.
+-- The answer of Book as a host has it, and what a call of Book on a lent run meets.
 -- Assumes nothing.
 use mathlib.Core.Path.{_≡_}
-use mathlib.Core.Bool.{Bool, _&&_, cond}
+use mathlib.Core.Bool.{cond}
 use mathlib.Core.List.{List}
-use Prim.Native.Nat.{ℕ, _+_}
-use lib.Dec.{eqb, ltb, leb}
-use lib.ListN.{length, getD}
+use Prim.Native.Nat.{_+_}
+use lib.Dec.{eqb}
 use Rattle.entries.specs.declared.Entry.{Entry}
-use Rattle.entries.specs.Entries.{blank}
 use Rattle.booking.specs.declared.Answer.{Answer}
 use Rattle.booking.specs.declared.Answer.the-variants.{Refused, Accepted}
 use Rattle.booking.specs.Booking.{Input, Result, bookResult, Booked}
@@ -25,12 +23,3 @@ answerOf r = cond (eqb (r .number) 0) (Accepted (r .added) (r .held)) (Refused (
 pub record HostBooked (i : Input) (reply : BookReply) (run′ : List Entry) : Type 0 where
   pub replies : reply ≡ bookReply (bookResult i)
   pub books : Booked i (answerOf reply) run′ (i .used + reply .added)
-
--- ---- the places that are written
--- up to which place: of a refusal none
-abbrev pub writtenTo : BookReply → ℕ → ℕ
-writtenTo reply used = cond (eqb (reply .number) 0) (used + reply .added) 0
-
--- from which place on, of the entries up to there: those added, and all where the first record added is a cancel
-abbrev pub writtenFrom : List Entry → ℕ → ℕ
-writtenFrom es used = cond (leb (length es) used) 0 (cond (ltb (used + 1) (length es) && eqb (getD es (used + 1) blank .state) 4) 0 used)

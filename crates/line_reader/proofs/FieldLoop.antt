@@ -15,22 +15,24 @@ use lib.Seq.{getD-set-other}
 use Rattle.lists.specs.Below.{someBelow}
 use Rattle.lists.specs.Bytes.{sameBytes}
 use Rattle.lists.specs.Written.{written}
-use Rattle.records.specs.Text.{fieldsOf, part, Placed}
+use Rattle.records.specs.Text.{fieldsOf}
+use Rattle.records.specs.InsidePlacedLines.{part, Placed}
 use Rattle.records.proofs.Placed.{all-placed}
 use Rattle.tables.specs.Types.{typeNamed}
 use Rattle.fields.specs.declared.FieldType.{FieldType}
 use Rattle.tables.specs.Tables.{fieldCount, fieldType}
 use Rattle.tables.proofs.Laws.{count-most}
-use Rattle.records.specs.Records.{recordFields, field, typeIn, fieldAmong, fieldsAt, FieldsPlaced}
+use Rattle.records.specs.Records.{recordFields, field, typeIn}
+use Rattle.records.specs.InsidePlacedFields.{fieldAmong, fieldsAt, FieldsPlaced}
 use Rattle.records.proofs.Laws.{among-is}
 use Rattle.format.specs.Format.{isPrintable, someField, unfilled}
 use Rattle.readings.specs.declared.Reading.{Reading}
-use Rattle.readings.specs.Readings.{FieldRead}
-use Rattle.codes_and_rows.specs.Fields.{fieldAfter, NumbersRead}
+use Rattle.readings.specs.InsideReadings.{FieldRead}
+use Rattle.codes_and_rows.specs.InsideFields.{fieldAfter, NumbersRead}
 use Rattle.codes_and_rows.proofs.Texts.{Printable, printable-line}
 use Rattle.codes_and_rows.proofs.Codes.{same-fields, type-is, field-of}
 use Rattle.line_reader.specs.declared.Head.{Head}
-use Rattle.line_reader.specs.LineReader.{unread, ReadTo, FilledTo, HeadRead}
+use Rattle.line_reader.specs.InsideLineReader.{unread, ReadTo, FilledTo, HeadRead}
 use Rattle.line_reader.proofs.Fields.{rest-end, read-more, field-fits}
 use Rattle.line_reader.proofs.Filled.{filled-line}
 use Rattle.line_reader.proofs.Heads.{head-read}

@@ -21,17 +21,19 @@ use Rattle.lists.specs.First.{isByte}
 use Rattle.lists.proofs.First.{first-le}
 use Rattle.lists.proofs.Parts.{part-length}
 use Rattle.lists.proofs.Table.{every-at}
-use Rattle.records.specs.Text.{cut, fieldsOf, part, At}
+use Rattle.records.specs.Text.{cut, fieldsOf}
+use Rattle.records.specs.InsidePlacedLines.{part, At}
 use Rattle.records.proofs.Cut.{fields-more, fields-last}
-use Rattle.tables.specs.Tables.{fieldType, joined}
+use Rattle.tables.specs.Tables.{fieldType}
+use Rattle.tables.specs.InsideRows.{joined}
 use Rattle.tables.proofs.Laws.{joined-at}
-use Rattle.tables.specs.Codes.{codeRows, typeOfCode}
+use Rattle.tables.specs.InsideCodes.{codeRows, typeOfCode}
 use Rattle.tables.proofs.FieldCodes.{row-type, codes-long}
 use Rattle.readings.specs.declared.Reading.{Reading}
-use Rattle.readings.specs.LeadingBytes.{fieldEnd, leadingField}
-use Rattle.readings.specs.Readings.{isNarrow, FieldRead}
-use Rattle.codes_and_rows.specs.Fields.{FieldFits, fieldAfter}
-use Rattle.line_reader.specs.LineReader.{restAt, ReadTo}
+use Rattle.readings.specs.InsideLeadingBytes.{fieldEnd, leadingField}
+use Rattle.readings.specs.InsideReadings.{isNarrow, FieldRead}
+use Rattle.codes_and_rows.specs.InsideFields.{FieldFits, fieldAfter}
+use Rattle.line_reader.specs.InsideLineReader.{restAt, ReadTo}
 
 pub rest-none : (file : List ℕ) (a e : ℕ) → e < a → restAt file a e ≡ []
 unfolding restAt

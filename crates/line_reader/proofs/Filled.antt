@@ -18,13 +18,14 @@ use Rattle.lists.specs.First.{firstWhere, isByte}
 use Rattle.lists.proofs.AllBelow.{at-below}
 use Rattle.lists.proofs.Below.{some-same}
 use Rattle.tables.specs.Types.{FH, typeNamed, typeLetters, letters}
-use Rattle.tables.specs.Tables.{isMandatory, markRows, joined}
+use Rattle.tables.specs.Tables.{isMandatory, markRows}
+use Rattle.tables.specs.InsideRows.{joined}
 use Rattle.tables.proofs.Laws.{marks-long, joined-at, row-mark}
 use Rattle.records.specs.Records.{recordFields, typeIn, field}
 use Rattle.format.specs.Format.{someField, unfilled}
 use Rattle.format.proofs.Some.{some-start, some-now, some-kept}
-use Rattle.codes_and_rows.specs.Fields.{fieldAfter}
-use Rattle.line_reader.specs.LineReader.{unfilledAt, FilledTo, headFilled}
+use Rattle.codes_and_rows.specs.InsideFields.{fieldAfter}
+use Rattle.line_reader.specs.InsideLineReader.{unfilledAt, FilledTo, headFilled}
 
 module _ (type : ℕ) (line : List ℕ) where
   filled-none : FilledTo type line 0 true

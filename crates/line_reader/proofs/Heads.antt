@@ -15,18 +15,18 @@ use lib.ListN.{length, getD, set, length-set}
 use lib.Seq.{getD-set-same, getD-set-other}
 use Rattle.lists.proofs.AllBelow.{at-below}
 use Rattle.lists.proofs.Table.{every-at}
-use Rattle.records.specs.Text.{part, At}
+use Rattle.records.specs.InsidePlacedLines.{part, At}
 use Rattle.tables.specs.Types.{typeNamed}
 use Rattle.fields.specs.Fields.{fitsType}
 use Rattle.fields.specs.declared.FieldType.the-variants.{RecordId, Char}
 use Rattle.tables.specs.Tables.{fieldCounts, fieldCount, fieldType}
 use Rattle.readings.specs.declared.Reading.{Reading}
-use Rattle.readings.specs.LeadingBytes.{leadingField}
+use Rattle.readings.specs.InsideLeadingBytes.{leadingField}
 use Rattle.readings.proofs.Ends.{field-length}
-use Rattle.readings.specs.Readings.{FieldRead}
-use Rattle.codes_and_rows.specs.Fields.{fieldAfter}
+use Rattle.readings.specs.InsideReadings.{FieldRead}
+use Rattle.codes_and_rows.specs.InsideFields.{fieldAfter}
 use Rattle.line_reader.specs.declared.Head.{Head}
-use Rattle.line_reader.specs.LineReader.{unread, headFilled, LineLent, ReadTo, HeadRead}
+use Rattle.line_reader.specs.InsideLineReader.{unread, headFilled, LineLent, ReadTo, HeadRead}
 use Rattle.line_reader.proofs.Fields.{end-inside, field-part, rest-end, field-there, field-is, read-none, read-more, read-at, field-fits}
 use Rattle.line_reader.proofs.Filled.{head-filled}
 use Rattle.line_reader.proofs.Unread.{unknown-type, few-fields, unfit-head}

@@ -14,20 +14,20 @@ use lib.IntN.{ℤ}
 use lib.ListN.{length, getD, set}
 use Rattle.lists.specs.Below.{firstBelow}
 use Rattle.lists.specs.Bytes.{sameBytes}
-use Rattle.lists.specs.FirstSoFar.{firstAfter, SoFar}
+use Rattle.lists.specs.InsideFirstSoFar.{firstAfter, SoFar}
 use Rattle.lists.specs.Written.{written}
 use Rattle.lists.proofs.FirstSoFar.{so-far-none, so-far-more, so-far-end}
 use Rattle.records.specs.Records.{field, typeIn}
 use Rattle.columns.specs.Columns.{charge, usage}
-use Rattle.columns.specs.Rows.{RowStored}
+use Rattle.columns.specs.InsideRows.{RowStored}
 use Rattle.columns.proofs.Rows.{Reading, reading-more}
 use Rattle.format.specs.Format.{lineAt, someField, unfilled, unitOf, miscoded, firstMiscoded}
-use Rattle.codes_and_rows.specs.Fields.{FieldFits}
-use Rattle.codes_and_rows.specs.Numbers.{codesStand, unitIf, columnNumbers, columnAmount}
+use Rattle.codes_and_rows.specs.InsideFields.{FieldFits}
+use Rattle.codes_and_rows.specs.InsideNumbers.{codesStand, unitIf, columnNumbers, columnAmount}
 use Rattle.codes_and_rows.proofs.Codes.{stands-at, codes-exact}
 use Rattle.codes_and_rows.proofs.Rows.{numbers-same, charge-same, usage-same}
 use Rattle.line_reader.specs.declared.LinesRead.{LinesRead}
-use Rattle.line_reader.specs.LineReader.{unread, firstUnread, AllRead}
+use Rattle.line_reader.specs.InsideLineReader.{unread, firstUnread, AllRead}
 use Rattle.line_reader.proofs.FieldLoop.{LineRead}
 use Rattle.line_reader.proofs.Heads.{count-least}
 use Rattle.line_reader.proofs.Unread.{first-here}

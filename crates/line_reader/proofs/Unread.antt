@@ -27,8 +27,8 @@ use Rattle.tables.specs.Tables.{fieldCount, fieldType}
 use Rattle.records.specs.Records.{recordFields, field, typeIn}
 use Rattle.records.proofs.Laws.{fields-few, fields-many, field-at, field-none}
 use Rattle.format.specs.Format.{isPrintable, lineAt, unformatted, firstUnformatted, someField, unfit, firstUnfit}
-use Rattle.codes_and_rows.specs.Fields.{fieldAfter}
-use Rattle.line_reader.specs.LineReader.{unread, firstUnread}
+use Rattle.codes_and_rows.specs.InsideFields.{fieldAfter}
+use Rattle.line_reader.specs.InsideLineReader.{unread, firstUnread}
 
 -- ---- a line
 or-first : (a b : Bool) → a ≡ true → a || b ≡ true

@@ -1,1 +1,1 @@
-pub mod LineReader
+pub mod InsideLineReader

@@ -6,15 +6,17 @@ ghost use Prim.Native.Nat.{ℕ, _≤_, _<_};
 ghost use lib.ListN.{length};
 ghost use Rattle.lists.specs.Bytes.{sameBytes};
 ghost use Rattle.lists.specs.Written.{written};
-ghost use Rattle.calendar.specs.Calendar.{firstDays};
-ghost use Rattle.records.specs.Text.{linesOf, part, Placed};
-ghost use Rattle.columns.specs.Columns.{Room, ColumnsRead};
-ghost use Rattle.columns.specs.Rows.{columnFields};
-ghost use Rattle.tables.specs.Tables.{markRows, joined};
-ghost use Rattle.tables.specs.Codes.{codeRows};
-ghost use Rattle.records.specs.Records.{fieldAmong, fieldsAt, FieldsPlaced};
+ghost use Rattle.calendar.specs.InsideFirstDays.{firstDays};
+ghost use Rattle.records.specs.Text.{linesOf};
+ghost use Rattle.records.specs.InsidePlacedLines.{part, Placed};
+ghost use Rattle.columns.specs.InsideColumns.{Room, ColumnsRead};
+ghost use Rattle.columns.specs.InsideRows.{columnFields};
+ghost use Rattle.tables.specs.Tables.{markRows};
+ghost use Rattle.tables.specs.InsideRows.{joined};
+ghost use Rattle.tables.specs.InsideCodes.{codeRows};
+ghost use Rattle.records.specs.InsidePlacedFields.{fieldAmong, fieldsAt, FieldsPlaced};
 ghost use Rattle.format.specs.Format.{lineAt, unformatted, firstUnformatted};
-ghost use Rattle.line_reader.specs.LineReader.{unread, firstUnread, headFilled, LineLent, HeadRead, AllRead};
+ghost use Rattle.line_reader.specs.InsideLineReader.{unread, firstUnread, headFilled, LineLent, HeadRead, AllRead};
 use records::Record;
 
 // What is answered of a file's lines: the line at which the reader stopped, or their number; then, where it read them all, the first lines that fail

@@ -13,7 +13,7 @@ use borrow.Author.Count.{below-more}
 use borrow.Author.Tests.{eqb-true, eqb-false}
 use lib.Dec.{eqb}
 use Rattle.lists.specs.Below.{firstBelow}
-use Rattle.lists.specs.FirstSoFar.{firstAfter, SoFar}
+use Rattle.lists.specs.InsideFirstSoFar.{firstAfter, SoFar}
 use Rattle.lists.proofs.Below.{first-is, none-is-end}
 
 pub after-other : (first n i : ℕ) → firstAfter false first n i ≡ first

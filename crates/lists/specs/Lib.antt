@@ -1,8 +1,8 @@
 pub mod Below
 pub mod Bytes
-pub mod Column
 pub mod First
-pub mod FirstSoFar
+pub mod InsideColumn
+pub mod InsideFirstSoFar
+pub mod InsideTabulate
 pub mod Selections
-pub mod Tabulate
 pub mod Written

@@ -5,7 +5,7 @@ ghost use Prim.Native.Nat.{ℕ, _+_, _≤_, _<_};
 ghost use lib.ListN.{length, getD, drop};
 ghost use Rattle.lists.specs.First.{firstWhere, isByte};
 ghost use Rattle.lists.specs.Bytes.{sameBytes};
-ghost use Rattle.lists.specs.FirstSoFar.{firstAfter};
+ghost use Rattle.lists.specs.InsideFirstSoFar.{firstAfter};
 
 // The place of the first byte b of s, or the length where there is none.
 pub fn find(s: &[u8], b: u8) -> usize

@@ -1,4 +1,5 @@
-pub mod Chosen
-pub mod Originals
+pub mod InsideChosen
+pub mod InsideOriginals
+pub mod InsideSizes
+pub mod InsideSpans
 pub mod Periods
-pub mod Spans

@@ -1,10 +1,9 @@
 -- Tests 14 and 18 of Table 5-1, as document 01, "Tests", reads them. A day is held as itself and one; 0 says that the field is empty.
 -- Assumes nothing.
 use Prim.Native.Nat.{ℕ, min, max}
-use mathlib.Core.Path.{_≡_}
 use mathlib.Core.List.{List}
 use mathlib.Core.Bool.{Bool, not, _&&_}
-use lib.ListN.{length, getD}
+use lib.ListN.{length}
 use lib.Dec.{eqb, leb, ltb}
 use Rattle.lists.specs.Below.{firstBelow, someBelow}
 use Rattle.tables.specs.Types.{SH, TH}
@@ -29,13 +28,6 @@ pub record PeriodColumns : Type 0 where
 
 abbrev pub periodColumns : List ℕ → List ℕ → List ℕ → List ℕ → List ℕ → PeriodColumns
 periodColumns types sites starts ends cancels = record { types = types; sites = sites; starts = starts; ends = ends; cancels = cancels }
-
--- they have one number for each record
-pub record SameLength (types sites starts ends cancels : List ℕ) : Type 0 where
-  pub sites-length : length sites ≡ length types
-  pub starts-length : length starts ≡ length types
-  pub ends-length : length ends ≡ length types
-  pub cancels-length : length cancels ≡ length types
 
 -- "N periods"
 unfoldable pub isOriginal : PeriodColumns → ℕ → Bool

@@ -20,7 +20,7 @@ use Rattle.digits.proofs.Laws.{both-true}
 use Rattle.amounts.specs.Amounts.{pointOf, placesPart, noPoint, isUnsigned}
 use Rattle.amounts.proofs.Shape.{Unsigned, unsigned-say, isPlaces, point-inside}
 use Rattle.readings.specs.declared.Run.{Run}
-use Rattle.readings.specs.LeadingBytes.{fieldEnd, leadingField, Ends, DigitsRead, AllRead}
+use Rattle.readings.specs.InsideLeadingBytes.{fieldEnd, leadingField, Ends, DigitsRead, AllRead}
 use Rattle.readings.proofs.Ends.{field-length, ends-there, end-ends, end-after, end-first, end-more, digits-before, same-byte, next-inside}
 use Rattle.readings.proofs.Runs.{run-longest}
 use Rattle.readings.proofs.Magnitudes.{not-point}

@@ -21,7 +21,7 @@ use Rattle.lists.specs.First.{firstWhere, isByte}
 use Rattle.lists.proofs.First.{first-le}
 use Rattle.digits.specs.Digits.{isDigit, allDigits}
 use Rattle.digits.proofs.Laws.{both-true}
-use Rattle.readings.specs.LeadingBytes.{fieldEnd, leadingField, Ends}
+use Rattle.readings.specs.InsideLeadingBytes.{fieldEnd, leadingField, Ends}
 
 pub field-length : (s : List ℕ) → length (leadingField s) ≡ fieldEnd s
 field-length s = length-take-le (fieldEnd s) s (first-le (isByte 44) s)

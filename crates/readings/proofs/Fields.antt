@@ -15,11 +15,11 @@ use Rattle.fields.specs.declared.FieldType.{FieldType}
 use Rattle.fields.specs.declared.FieldType.the-variants.{RecordId, Digits, Number, Date, DateTime, Char, Varchar}
 use Rattle.fields.specs.Fields.{fitsFilled, fitsType}
 use Rattle.readings.specs.declared.Reading.{Reading}
-use Rattle.readings.specs.LeadingBytes.{fieldEnd, Ends}
+use Rattle.readings.specs.InsideLeadingBytes.{fieldEnd, Ends}
 use Rattle.readings.proofs.Ends.{ends-there}
 use Rattle.readings.proofs.LeadingTexts.{packed-none}
 use Rattle.readings.proofs.Magnitudes.{without-minus}
-use Rattle.readings.specs.Readings.{Says, FieldRead}
+use Rattle.readings.specs.InsideReadings.{Says, FieldRead}
 
 -- ---- what fits
 pub fits-empty : (t : FieldType) → fitsType t [] ≡ true

@@ -25,10 +25,10 @@ use Rattle.fields.specs.Fields.{isRead, isDay, fitsFilled, fitsType}
 use Rattle.columns.specs.Columns.{heldNumber, heldDay}
 use Rattle.readings.specs.declared.Run.{Run}
 use Rattle.readings.specs.declared.Reading.{Reading}
-use Rattle.readings.specs.LeadingBytes.{fieldEnd, leadingField, Ends, DigitsRead}
+use Rattle.readings.specs.InsideLeadingBytes.{fieldEnd, leadingField, Ends, DigitsRead}
 use Rattle.readings.proofs.Ends.{field-length, ends-there, digits-before}
 use Rattle.readings.proofs.Runs.{run-bound}
-use Rattle.readings.specs.Readings.{Says, FieldRead}
+use Rattle.readings.specs.InsideReadings.{Says, FieldRead}
 use Rattle.readings.proofs.Fields.{fits-empty, fits-filled, empty-says, field-read}
 
 or-second : (a b : Bool) → a ≡ false → a || b ≡ true → b ≡ true

@@ -11,7 +11,7 @@ use native.Mathlib.Omega.{arith}
 use lib.Dec.{lit<}
 use lib.ListN.{length, getD, take}
 use lib.Seq.{take-suc}
-use Rattle.readings.specs.LeadingBytes.{packedAfter, packed}
+use Rattle.readings.specs.InsideLeadingBytes.{packedAfter, packed}
 
 packed-last : (s : List ℕ) (v b : ℕ) → packedAfter v (s ++ (b ∷ [])) ≡ packedAfter v s * 256 + b
 unfolding packedAfter

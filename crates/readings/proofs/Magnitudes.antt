@@ -23,10 +23,10 @@ use Rattle.amounts.proofs.Powers.{ten-mono}
 use Rattle.amounts.proofs.Shape.{whole-only, whole-and-places}
 use Rattle.readings.specs.declared.Run.{Run}
 use Rattle.readings.specs.declared.Reading.{Reading}
-use Rattle.readings.specs.LeadingBytes.{fieldEnd, Ends, DigitsRead}
+use Rattle.readings.specs.InsideLeadingBytes.{fieldEnd, Ends, DigitsRead}
 use Rattle.readings.proofs.Ends.{ends-there, end-first, end-more, end-after, digits-before}
 use Rattle.readings.proofs.Runs.{run-bound}
-use Rattle.readings.specs.AmountReadings.{signedOf, WholeRead, MagnitudeRead, NegativeRead}
+use Rattle.readings.specs.InsideAmountReadings.{signedOf, WholeRead, MagnitudeRead, NegativeRead}
 
 -- ---- where the point stands
 pub not-point : (b : ℕ) (s : List ℕ) → isDigit b && allDigits s ≡ true → (eqb b 46 ≡ false) × (allDigits s ≡ true)

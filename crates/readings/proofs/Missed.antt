@@ -29,7 +29,7 @@ use Rattle.fields.specs.declared.FieldType.{FieldType}
 use Rattle.fields.specs.declared.FieldType.the-variants.{RecordId, Digits, Number, Date, Char, Varchar}
 use Rattle.fields.specs.Fields.{isRead, isDay, fitsFilled, fitsType}
 use Rattle.readings.specs.declared.Run.{Run}
-use Rattle.readings.specs.LeadingBytes.{fieldEnd, leadingField, Ends, AllRead, TextRead}
+use Rattle.readings.specs.InsideLeadingBytes.{fieldEnd, leadingField, Ends, AllRead, TextRead}
 use Rattle.readings.proofs.Ends.{field-length, end-ends, digits-before}
 use Rattle.readings.proofs.Runs.{run-longest}
 use Rattle.readings.proofs.Fields.{fits-filled}

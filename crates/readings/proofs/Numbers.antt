@@ -9,16 +9,17 @@ use native.Mathlib.Omega.{arith}
 use lib.ListN.{length, getD, drop, length-drop}
 use lib.Seq.{getD-take}
 use Rattle.digits.specs.declared.Number.the-variants.{Value}
-use Rattle.amounts.specs.Amounts.{isUnsigned, unitsOf, magnitudeOf}
+use Rattle.amounts.specs.Amounts.{isUnsigned, unitsOf}
+use Rattle.amounts.specs.InsideMagnitudes.{magnitudeOf}
 use Rattle.amounts.proofs.Shape.{point-inside, unsigned-say}
 use Rattle.amounts.proofs.Signs.{number-minus, number-plain, amount-minus, amount-plain}
 use Rattle.fields.specs.declared.FieldType.the-variants.{Number}
 use Rattle.readings.specs.declared.Reading.{Reading}
-use Rattle.readings.specs.LeadingBytes.{fieldEnd, leadingField}
+use Rattle.readings.specs.InsideLeadingBytes.{fieldEnd, leadingField}
 use Rattle.readings.proofs.Ends.{field-length}
-use Rattle.readings.specs.AmountReadings.{MagnitudeRead, NegativeRead}
+use Rattle.readings.specs.InsideAmountReadings.{MagnitudeRead, NegativeRead}
 use Rattle.readings.proofs.Magnitudes.{with-minus, without-minus}
-use Rattle.readings.specs.Readings.{Says, FieldRead}
+use Rattle.readings.specs.InsideReadings.{Says, FieldRead}
 use Rattle.readings.proofs.Fields.{fits-filled}
 
 -- an amount that was read isn't empty

@@ -14,7 +14,7 @@ use lib.Dec.{leb}
 use lib.ListN.{length, take, getD}
 use lib.Seq.{take-suc, length-take-le, getD-take}
 use Rattle.readings.specs.declared.Run.{Run}
-use Rattle.readings.specs.LeadingBytes.{DigitsRead, AllRead}
+use Rattle.readings.specs.InsideLeadingBytes.{DigitsRead, AllRead}
 use Rattle.digits.specs.Digits.{isDigit, allDigits, followedBy, numberOf}
 use Rattle.digits.proofs.Laws.{both-true, number-bound}
 

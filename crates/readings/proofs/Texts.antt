@@ -14,9 +14,9 @@ use Rattle.lists.proofs.First.{first-le}
 use Rattle.fields.specs.declared.FieldType.the-variants.{Char, Varchar}
 use Rattle.readings.specs.declared.Run.{Run}
 use Rattle.readings.specs.declared.Reading.{Reading}
-use Rattle.readings.specs.LeadingBytes.{fieldEnd, Ends, TextRead}
+use Rattle.readings.specs.InsideLeadingBytes.{fieldEnd, Ends, TextRead}
 use Rattle.readings.proofs.Ends.{ends-there}
-use Rattle.readings.specs.Readings.{Says, FieldRead}
+use Rattle.readings.specs.InsideReadings.{Says, FieldRead}
 use Rattle.readings.proofs.Fields.{fits-filled, field-read}
 
 module _ (s : List ℕ) (t : Run) (text : TextRead s t) (end : Ends s (t .len)) (width : ℕ) (r : Reading) (l : r .len ≡ t .len) (n : r .number ≡ t .value) where

@@ -1,3 +1,3 @@
-pub mod AmountReadings
-pub mod LeadingBytes
-pub mod Readings
+pub mod InsideAmountReadings
+pub mod InsideLeadingBytes
+pub mod InsideReadings

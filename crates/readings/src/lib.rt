@@ -4,12 +4,12 @@ ghost use mathlib.Core.Path.{_≡_};
 ghost use mathlib.Core.Bool.{true, false};
 ghost use Prim.Native.Nat.{ℕ, _≤_, _<_, _+_, _*_, _-_, _^_};
 ghost use lib.ListN.{length, getD};
-ghost use Rattle.readings.specs.LeadingBytes.{Ends, DigitsRead, AllRead, TextRead};
-ghost use Rattle.readings.specs.AmountReadings.{signedOf, WholeRead, MagnitudeTold, NegativeTold};
-ghost use Rattle.calendar.specs.Calendar.{firstDays};
+ghost use Rattle.readings.specs.InsideLeadingBytes.{Ends, DigitsRead, AllRead, TextRead};
+ghost use Rattle.readings.specs.InsideAmountReadings.{signedOf, WholeRead, MagnitudeTold, NegativeTold};
+ghost use Rattle.calendar.specs.InsideFirstDays.{firstDays};
 ghost use Rattle.fields.specs.declared.FieldType.the-variants.{RecordId, Digits, Number, Date, DateTime, Char, Varchar};
-ghost use Rattle.tables.specs.Codes.{typeOfCode};
-ghost use Rattle.readings.specs.Readings.{FieldTold, isNarrow};
+ghost use Rattle.tables.specs.InsideCodes.{typeOfCode};
+ghost use Rattle.readings.specs.InsideReadings.{FieldTold, isNarrow};
 use calendar::Day;
 
 // The bytes that were read, and the number that they write.

@@ -14,7 +14,8 @@ use lib.ListN.{length, getD, take, drop, length-take, length-drop, drop-of-lengt
 use lib.Seq.{take-all, drop-drop, getD-take, getD-drop, take-take, take-nil, drop-nil}
 use Rattle.lists.proofs.First.{first-le}
 use Rattle.lists.specs.First.{firstWhere, isByte}
-use Rattle.records.specs.Text.{onto, cut, chomp, ended, linesOf, fieldsOf, part, LineEnd}
+use Rattle.records.specs.Text.{onto, cut, chomp, ended, linesOf, fieldsOf}
+use Rattle.records.specs.InsidePlacedLines.{part, LineEnd}
 
 -- a separator at k, the first: the part before it, and the parts after it
 pub cut-more : (d : ℕ) (s : List ℕ) → firstWhere (isByte d) s < length s

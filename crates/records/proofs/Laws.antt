@@ -20,9 +20,11 @@ use lib.Dec.{ltb}
 use lib.ListN.{length, getD, take, length-take, List·getD-eq-default}
 use lib.Seq.{getD-take}
 use Rattle.tables.specs.Types.{typeNamed}
-use Rattle.records.specs.Text.{part, fieldsOf, Placed, At}
+use Rattle.records.specs.InsidePlacedLines.{part, Placed, At}
+use Rattle.records.specs.Text.{fieldsOf}
 use Rattle.records.proofs.Placed.{placed-at}
-use Rattle.records.specs.Records.{recordFields, field, numberAmong, fieldAmong, fieldsAt, FieldsPlaced, typeIn, RecordFound}
+use Rattle.records.specs.Records.{recordFields, field, typeIn}
+use Rattle.records.specs.InsidePlacedFields.{numberAmong, fieldAmong, fieldsAt, FieldsPlaced, RecordFound}
 use Rattle.records.specs.declared.Record.{Record}
 
 pub fields-few : (line : List ℕ) → length (fieldsOf line) ≤ 24 → recordFields line ≡ fieldsOf line

@@ -12,7 +12,7 @@ use lib.Dec.{T, leb, leb→le}
 use lib.ListN.{length, getD, take, drop, set, length-append, length-set}
 use lib.Seq.{take-suc-set, length-take-le, getD-take}
 use Rattle.lists.proofs.Table.{and-left, and-right}
-use Rattle.records.specs.Text.{part, parts, within, Placed, At, placedLines, LinesPlaced}
+use Rattle.records.specs.InsidePlacedLines.{part, parts, within, Placed, At, placedLines, LinesPlaced}
 
 parts-snoc : (s bs es : List ℕ) (a e : ℕ) → length bs ≡ length es → parts s (bs ++ (a ∷ [])) (es ++ (e ∷ [])) ≡ parts s bs es ++ (part s a e ∷ [])
 parts-snoc s [] [] a e h = refl

@@ -1,2 +1,4 @@
+pub mod InsidePlacedFields
+pub mod InsidePlacedLines
 pub mod Records
 pub mod Text

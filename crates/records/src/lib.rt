@@ -2,11 +2,12 @@
 ghost use mathlib.Core.Path.{_≡_};
 ghost use Prim.Native.Nat.{_≤_, _<_};
 ghost use lib.ListN.{length, take};
-ghost use Rattle.records.specs.Text.{LineEnd, LinesFound, part, At};
+ghost use Rattle.records.specs.InsidePlacedLines.{LineEnd, LinesFound, part, At};
 ghost use mathlib.Core.Bool.{cond};
 ghost use lib.Dec.{ltb};
 ghost use Rattle.tables.specs.Types.{typeNamed};
-ghost use Rattle.records.specs.Records.{field, numberAmong, fieldAmong, fieldsAt, FieldsPlaced, RecordFound};
+ghost use Rattle.records.specs.Records.{field};
+ghost use Rattle.records.specs.InsidePlacedFields.{numberAmong, fieldAmong, fieldsAt, FieldsPlaced, RecordFound};
 
 pub enum Lines {
     Count(usize),

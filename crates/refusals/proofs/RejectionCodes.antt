@@ -13,7 +13,7 @@ use native.Mathlib.Omega.{arith}
 use borrow.Author.Tests.{eqb-true}
 use lib.Dec.{T, eqb, leb, ltb, leb→le, ltb→lt}
 use lib.ListN.{getD}
-use Rattle.lists.specs.Tabulate.{tabulate}
+use Rattle.lists.specs.InsideTabulate.{tabulate}
 use Rattle.lists.proofs.Table.{and-left, and-right, tabulate-at}
 use Rattle.refusals.specs.declared.RejectionCode.{RejectionCode}
 use Rattle.refusals.specs.declared.RejectionCode.the-variants.{Code, NotATest}

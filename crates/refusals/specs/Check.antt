@@ -1,16 +1,15 @@
 -- Check: the first refusal of a list of refusals in document 01's order. "Each test is finished over the whole file before the next begins".
 -- Assumes nothing.
-use Prim.Native.Nat.{ℕ, _-_, _%_, _≤_}
-use mathlib.Core.Path.{_≡_}
+use Prim.Native.Nat.{ℕ, _-_, _%_}
 use mathlib.Core.List.{List, [], _∷_, _++_, map}
 use mathlib.Core.Bool.{Bool, not, _&&_, _||_}
-use lib.ListN.{length, getD}
+use lib.ListN.{length}
 use lib.Dec.{eqb, leb, ltb}
 use lib.IntN.{ℤ}
 use Rattle.digits.specs.Digits.{allDigits}
-use Rattle.records.specs.Text.{linesOf, Placed}
+use Rattle.records.specs.Text.{linesOf}
 use Rattle.tables.specs.Types.{SH, TH, DU, CH, OC, FT}
-use Rattle.columns.specs.Columns.{numberIn, chargeIn, usageIn, recordType, recordId, parentId, site, startDay, endDay, cancel, Room, ColumnsRead}
+use Rattle.columns.specs.Columns.{numberIn, chargeIn, usageIn, recordType, recordId, parentId, site, startDay, endDay, cancel}
 use Rattle.tables.specs.Groups.{parentPlaces, picked, places, ones}
 use Rattle.format.specs.Format.{lineAt, firstUnformatted, firstUnfit, firstMisplaced, firstUnfilled, firstMiscoded}
 use Rattle.identity.specs.Identity.{firstRepeated, firstUnlike}
@@ -143,12 +142,3 @@ checkRefusals retailer distributors file =
 
 unfoldable pub checkOf : ℕ → List ℕ → List ℕ → Outcome
 checkOf retailer distributors file = firstRefusal (checkRefusals retailer distributors file)
-
--- ════ what is lent to the stages of Check: the places of the lines of a file, and their columns
-pub record Read (file : List ℕ) (n : ℕ) (starts ends words : List ℕ) (charges usages : List ℤ) : Type 0 where
-  pub placed : Placed file n starts ends (linesOf file)
-  pub few : n ≤ 4096
-  pub some : 1 ≤ n
-  pub room : Room n words charges usages
-  pub most : length charges ≤ 4096
-  pub columns : ColumnsRead (linesOf file) words charges usages

@@ -1,3 +1,5 @@
 pub mod Check
 pub mod Codes
+pub mod InsideNumbers
+pub mod InsideRead
 pub mod Refusals

@@ -3,7 +3,7 @@
 -- Assumes nothing.
 use Prim.Native.Nat.{ℕ, _+_}
 use mathlib.Core.Bool.{Bool, cond}
-use mathlib.Core.List.{List, [], _∷_, map}
+use mathlib.Core.List.{List, [], _∷_}
 use lib.Dec.{ltb}
 use Rattle.refusals.specs.declared.Outcome.{Outcome}
 
@@ -35,7 +35,3 @@ passed = outcome 0 0
 unfoldable pub firstRefusal : List Refusal → Outcome
 firstRefusal [] = passed
 firstRefusal (r ∷ rest) = cond (r .applies) (outcome (r .number) (r .line)) (firstRefusal rest)
-
--- their numbers, in order
-abbrev pub numbersOf : List Refusal → List ℕ
-numbersOf rs = map (λ (r : Refusal). r .number) rs

@@ -34,8 +34,8 @@ use denote.Triple.Statement.{Contract, Triple}
 use denote.Triple.Clauses.{ensured, lasts}
 use denote.Triple.Walked.{says}
 use Rattle.entries.specs.declared.Entry.{Entry}
-use Rattle.entries.specs.Words.{RoomFor, entryAt, writes, wordsAt, amountsAt}
-use Rattle.soundness.specs.Room.{readCount}
+use Rattle.entries.specs.InsideWords.{RoomFor, entryAt, writes, wordsAt, amountsAt}
+use Rattle.soundness.specs.InsideRoom.{readCount}
 use Rattle.runs.proofs.Lent.{cites, words, lent, said, lends-got, lends-says, lends}
 use Rattle.entries.proofs.Entry as T
 use Rattle.entries.proofs.Entry.Laws as T′

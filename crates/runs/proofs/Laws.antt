@@ -15,13 +15,13 @@ use lib.ListN.{length, getD, take, drop, take-append-drop, length-drop}
 use lib.Seq.{getD-take, getD-drop, length-take-le, ext-getD, take-take}
 use Rattle.entries.specs.declared.Entry.{Entry}
 use Rattle.entries.specs.Entries.{blank}
-use Rattle.entries.specs.Words.{wordsFor, amountsFor, RoomFor, entryAt, entriesOf}
+use Rattle.entries.specs.InsideWords.{wordsFor, amountsFor, RoomFor, entryAt, entriesOf}
 use Rattle.entries.proofs.Words.{entries-are, length-entries, entry-of}
 use Rattle.lists.proofs.Selections.{cases}
 use Rattle.soundness.specs.Sound.{sizesFit}
-use Rattle.soundness.specs.Room.{readCount}
+use Rattle.soundness.specs.InsideRoom.{readCount}
 use Rattle.soundness.proofs.Sizes.{sizes-mean}
-use Rattle.runs.specs.Copies.{placed}
+use Rattle.runs.specs.InsideCopies.{placed}
 
 -- ---- how many are copied
 module _ (places used : ℕ) where

@@ -31,9 +31,9 @@ use denote.Triple.Statement.{Contract, Triple}
 use denote.Triple.Clauses.{ensured, lasts}
 use denote.Triple.Walked.{says}
 use Rattle.entries.specs.declared.Entry.{Entry}
-use Rattle.entries.specs.Words.{RoomFor, entriesOf}
-use Rattle.soundness.specs.Room.{readCount}
-use Rattle.runs.specs.Copies.{placed}
+use Rattle.entries.specs.InsideWords.{RoomFor, entriesOf}
+use Rattle.soundness.specs.InsideRoom.{readCount}
+use Rattle.runs.specs.InsideCopies.{placed}
 use Rattle.runs.proofs.Lent.{cites, cites-by, words, tokens, lent, said, shared, lends-got, lends-says, lends, shares-got, shares-says, shares}
 use Rattle.entries.proofs.Entry as T
 use Rattle.runs.proofs.load as load

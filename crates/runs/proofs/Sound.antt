@@ -10,10 +10,10 @@ use lib.IntN.{ℤ}
 use lib.ListN.{length, take}
 use Rattle.lists.proofs.Selections.{cases}
 use Rattle.entries.specs.declared.Entry.{Entry}
-use Rattle.entries.specs.Words.{entriesOf}
+use Rattle.entries.specs.InsideWords.{entriesOf}
 use Rattle.entries.proofs.Words.{length-entries, take-entries}
 use Rattle.soundness.specs.Sound.{isSound, sizesFit}
-use Rattle.soundness.specs.Room.{readCount}
+use Rattle.soundness.specs.InsideRoom.{readCount}
 use Rattle.soundness.proofs.Meaning.{past-used}
 use Rattle.soundness.proofs.Sizes.{sizes-mean, sizes-amiss}
 

@@ -2,9 +2,9 @@
 ghost use mathlib.Core.Path.{_≡_};
 ghost use Prim.Native.Nat.{_≤_};
 ghost use lib.ListN.{length, take};
-ghost use Rattle.entries.specs.Words.{RoomFor, entriesOf};
-ghost use Rattle.soundness.specs.Room.{readCount, LedgerRoom};
-ghost use Rattle.runs.specs.Copies.{placed};
+ghost use Rattle.entries.specs.InsideWords.{RoomFor, entriesOf};
+ghost use Rattle.soundness.specs.InsideRoom.{readCount, LedgerRoom};
+ghost use Rattle.runs.specs.InsideCopies.{placed};
 use entries::Entry;
 
 // Copies the entries that are read of a ledger into the words: those in use, and none where the sizes don't fit.

@@ -10,15 +10,15 @@ use mathlib.Core.Bool.{Bool, true, false, cond}
 use Prim.Native.Nat.{ℕ, _+_, _<_}
 use native.Mathlib.Omega.{arith}
 use lib.ListN.{length, set}
-use Rattle.apart.specs.Apart.{Apart, Meeting}
-use Rattle.apart.specs.Gathered.{dayNumber, Gathering}
+use Rattle.apart.specs.InsideApart.{Apart, Meeting}
+use Rattle.apart.specs.InsideGathered.{dayNumber, Gathering}
 use Rattle.apart.proofs.Gathering.{gathering-more, gathering-skip, gathering-kept, gathering-same, days-apart, days-meet}
 use Rattle.entries.specs.declared.Entry.{Entry}
 use Rattle.entries.specs.Entries.{entryOf}
 use Rattle.soundness.specs.Meaning.{EntryFits, LivePeriod, Sound}
 use Rattle.soundness.specs.Sound.{isLivePeriod}
 use Rattle.soundness.proofs.Tests.{equal, both}
-use Rattle.sound_ledgers.specs.LivePeriods.{liveAt, firstDay, lastDay, LiveApart}
+use Rattle.sound_ledgers.specs.InsideLivePeriods.{liveAt, firstDay, lastDay, LiveApart}
 
 module _ (es : List Entry) where
   -- the entry e at i is gathered, with the numbers v and w of its days

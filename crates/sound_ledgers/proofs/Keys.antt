@@ -12,13 +12,13 @@ use native.Mathlib.Omega.{arith}
 use borrow.Author.Count.{below-none, below-more}
 use lib.ListN.{length, getD, set}
 use Rattle.lists.proofs.Column.{copied-more}
-use Rattle.buckets.specs.Buckets.{Distinct}
+use Rattle.buckets.specs.InsideBuckets.{Distinct}
 use Rattle.entries.specs.declared.Entry.{Entry}
 use Rattle.entries.specs.Entries.{entryOf}
 use Rattle.soundness.specs.Meaning.{EntryFits, Sound}
 use Rattle.soundness.specs.Sound.{entryFits}
 use Rattle.soundness.proofs.Meaning.{entry-means}
-use Rattle.sound_ledgers.specs.Keys.{keyOf, keyAt, Keyed, KeysDiffer}
+use Rattle.sound_ledgers.specs.InsideKeys.{keyOf, keyAt, Keyed, KeysDiffer}
 
 pub key-tells : (s t i j : ℕ) → s < 10 ^ 4 → t < 10 ^ 4 → i < 10 ^ 15 → j < 10 ^ 15 → keyOf s i ≡ keyOf t j → (s ≡ t) × (i ≡ j)
 unfolding keyOf

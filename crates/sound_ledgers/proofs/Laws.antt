@@ -15,20 +15,20 @@ use lib.ListN.{length, replicate, length-replicate}
 use Rattle.buckets.proofs.Laws.{zeros}
 use Rattle.lists.specs.Below.{firstBelow}
 use Rattle.lists.proofs.Below.{first-at-most}
-use Rattle.buckets.specs.Trees.{repeatsAt}
+use Rattle.buckets.specs.InsideTrees.{repeatsAt}
 use Rattle.buckets.proofs.Repeats.{one-repeats}
 use Rattle.sound_ledgers.proofs.Keys.{key-repeats}
-use Rattle.sound_ledgers.specs.LivePeriods.{LiveApart}
+use Rattle.sound_ledgers.specs.InsideLivePeriods.{LiveApart}
 use Rattle.entries.specs.declared.Entry.{Entry}
-use Rattle.entries.specs.Words.{entriesOf}
+use Rattle.entries.specs.InsideWords.{entriesOf}
 use Rattle.entries.proofs.Words.{length-entries, take-entries}
 use Rattle.soundness.specs.Meaning.{Sound}
 use Rattle.soundness.specs.Sound.{sizesFit, entriesSound, isSound}
 use Rattle.soundness.proofs.Sizes.{sizes-mean}
 use Rattle.soundness.proofs.Meaning.{entries-mean}
-use Rattle.sound_ledgers.specs.Keys.{Keyed, KeysDiffer}
-use Rattle.sound_ledgers.specs.Pairing.{PairedOff}
-use Rattle.sound_ledgers.specs.Columns.{SoundRoom}
+use Rattle.sound_ledgers.specs.InsideKeys.{Keyed, KeysDiffer}
+use Rattle.sound_ledgers.specs.InsidePairing.{PairedOff}
+use Rattle.sound_ledgers.specs.InsideColumns.{SoundRoom}
 
 pub shown-sound : (es : List Entry) (used : ℕ) (keys : List ℕ) → length es ≡ used → used ≤ 8192 → Keyed es used keys → KeysDiffer es used → PairedOff es used → LiveApart es used → Sound es used
 shown-sound es used keys long few keyed differ pairs apart =

@@ -22,10 +22,10 @@ use Rattle.entries.specs.Entries.{entryOf}
 use Rattle.soundness.specs.Meaning.{Names, Paired, Sound}
 use Rattle.soundness.specs.Sound.{isNamed, opposite}
 use Rattle.soundness.proofs.Meaning.{named-means, opposite-means}
-use Rattle.buckets.specs.Buckets.{firstPlace}
-use Rattle.sound_ledgers.specs.Keys.{keyOf, Keyed, KeysDiffer, stateAt}
+use Rattle.buckets.specs.InsideBuckets.{firstPlace}
+use Rattle.sound_ledgers.specs.InsideKeys.{keyOf, Keyed, KeysDiffer, stateAt}
 use Rattle.sound_ledgers.proofs.Keys.{key-tells}
-use Rattle.sound_ledgers.specs.Pairing.{Cancels, Marked, WithMarks, PairedOff}
+use Rattle.sound_ledgers.specs.InsidePairing.{Cancels, Marked, WithMarks, PairedOff}
 
 module _ (es : List Entry) where
   pub cancels : (i j : ℕ) (c e : Entry) → c ≡ entryOf es i → e ≡ entryOf es j → j < i → c .state ≡ 4 → isNamed c e ≡ true → opposite c e ≡ true → Cancels es i j

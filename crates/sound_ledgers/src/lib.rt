@@ -3,17 +3,17 @@ ghost use mathlib.Core.Path.{_≡_};
 ghost use mathlib.Core.Bool.{cond, true, false};
 ghost use Prim.Native.Nat.{_<_, _+_, _≤_, ℕ};
 ghost use lib.ListN.{length, set, getD};
-ghost use Rattle.apart.specs.Gathered.{dayNumber, Gathering};
+ghost use Rattle.apart.specs.InsideGathered.{dayNumber, Gathering};
 ghost use Rattle.soundness.specs.Sound.{isLivePeriod, isSound};
-ghost use Rattle.entries.specs.Words.{RoomFor, entriesOf};
-ghost use Rattle.lists.specs.Column.{Copied};
-ghost use Rattle.sound_ledgers.specs.LivePeriods.{liveAt, firstDay, lastDay};
+ghost use Rattle.entries.specs.InsideWords.{RoomFor, entriesOf};
+ghost use Rattle.lists.specs.InsideColumn.{Copied};
+ghost use Rattle.sound_ledgers.specs.InsideLivePeriods.{liveAt, firstDay, lastDay};
 ghost use Rattle.soundness.specs.Meaning.{Sound};
-ghost use Rattle.sound_ledgers.specs.Keys.{keyOf, Keyed, stateAt, KeysDiffer};
+ghost use Rattle.sound_ledgers.specs.InsideKeys.{keyOf, Keyed, stateAt, KeysDiffer};
 ghost use Rattle.entries.specs.Entries.{entryOf};
-ghost use Rattle.sound_ledgers.specs.Pairing.{KeyIndex, Cancels, Marked, WithMarks, PairedOff};
-ghost use Rattle.soundness.specs.Room.{LedgerRoom};
-ghost use Rattle.sound_ledgers.specs.Columns.{SoundRoom};
+ghost use Rattle.sound_ledgers.specs.InsidePairing.{KeyIndex, Cancels, Marked, WithMarks, PairedOff};
+ghost use Rattle.soundness.specs.InsideRoom.{LedgerRoom};
+ghost use Rattle.sound_ledgers.specs.InsideColumns.{SoundRoom};
 use entries::Entry;
 
 // Puts the numbers of the first and the last day of an entry after those gathered so far, of which there are `count`, and counts it where it is a live period.

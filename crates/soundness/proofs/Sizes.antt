@@ -8,9 +8,9 @@ use mathlib.Core.List.{List}
 use mathlib.Core.Bool.{Bool, true, false, cond}
 use Prim.Native.Nat.{ℕ, _≤_}
 use lib.IntN.{ℤ}
-use Rattle.entries.specs.Words.{RoomFor, entriesOf}
+use Rattle.entries.specs.InsideWords.{RoomFor, entriesOf}
 use Rattle.entries.proofs.Words.{length-entries}
-use Rattle.soundness.specs.Room.{LedgerRoom}
+use Rattle.soundness.specs.InsideRoom.{LedgerRoom}
 use Rattle.soundness.specs.Sound.{sizesFit, isSound}
 use Rattle.soundness.proofs.Tests.{both, at-most}
 

@@ -1,3 +1,3 @@
+pub mod InsideRoom
 pub mod Meaning
-pub mod Room
 pub mod Sound

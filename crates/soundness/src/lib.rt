@@ -7,8 +7,8 @@ ghost use Prim.Native.Nat.{_<_, _^_};
 ghost use lib.Dec.{eqb, ltb};
 ghost use lib.IntN.{natAbs, _+ℤ_};
 ghost use Rattle.entries.specs.Entries.{entryOf, isPeriod};
-ghost use Rattle.entries.specs.Words.{RoomFor, entriesOf};
-ghost use Rattle.soundness.specs.Room.{readCount};
+ghost use Rattle.entries.specs.InsideWords.{RoomFor, entriesOf};
+ghost use Rattle.soundness.specs.InsideRoom.{readCount};
 ghost use Rattle.soundness.specs.Sound.{sizesFit, digitsFit, within, rangesFit, isZero, lacksFit, entryFits, isLivePeriod, sameSubject, isNamed, opposite};
 use entries::Entry;
 

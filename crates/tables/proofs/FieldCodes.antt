@@ -9,7 +9,7 @@ use Rattle.fields.specs.declared.FieldType.{FieldType}
 use Rattle.fields.specs.declared.FieldType.the-variants.{RecordId}
 use Rattle.tables.specs.Tables.{typeRows, fieldType}
 use Rattle.tables.proofs.Laws.{RowsOf}
-use Rattle.tables.specs.Codes.{codeRows, typeOfCode}
+use Rattle.tables.specs.InsideCodes.{codeRows, typeOfCode}
 
 typesOf : List ℕ → List FieldType
 typesOf row = map typeOfCode row

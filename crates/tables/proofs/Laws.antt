@@ -13,7 +13,8 @@ use lib.Dec.{leb, leb→le}
 use lib.ListN.{length, getD, take, drop}
 use lib.Seq.{take-at, drop-at, drop-drop, getD-take, getD-drop}
 use Rattle.lists.proofs.Table.{every-at}
-use Rattle.tables.specs.Tables.{fieldCounts, fieldCount, markRows, joined, isMandatory}
+use Rattle.tables.specs.Tables.{fieldCounts, fieldCount, markRows, isMandatory}
+use Rattle.tables.specs.InsideRows.{joined}
 
 -- document 01: "The 2007 field counts are 9, 18, 14, 17, 15, 10, 19, 11, 5"
 pub field-counts : fieldCounts ≡ 9 ∷ 18 ∷ 14 ∷ 17 ∷ 15 ∷ 10 ∷ 19 ∷ 11 ∷ 5 ∷ []

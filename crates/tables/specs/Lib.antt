@@ -1,4 +1,5 @@
-pub mod Codes
 pub mod Groups
+pub mod InsideCodes
+pub mod InsideRows
 pub mod Tables
 pub mod Types

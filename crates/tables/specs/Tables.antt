@@ -1,7 +1,7 @@
 -- Tables 4-2 to 4-10: the fields of each record type in order, with their types and Mandatory marks.
 -- Assumes nothing.
 use Prim.Native.Nat.{ℕ, zero, suc}
-use mathlib.Core.List.{List, [], _∷_, _++_, map}
+use mathlib.Core.List.{List, [], _∷_, map}
 use mathlib.Core.Bool.{Bool, true, false, cond, _&&_}
 use lib.ListN.{length, getD}
 use lib.Dec.{ltb}
@@ -111,11 +111,6 @@ typeRows = map (λ (fields : List Field). padded 19 RecordId (map (λ (f : Field
 
 abbrev pub markRows : List (List Bool)
 markRows = map (λ (fields : List Field). padded 19 false (map (λ (f : Field). f .1) fields)) recordTables
-
--- the rows one after the other, as a constant of the code holds them (proofs/Laws, `joined-row`)
-abbrev pub joined {ℓ} : {A : Type ℓ} → List (List A) → List A
-joined [] = []
-joined (row ∷ rows) = row ++ joined rows
 
 -- the type of the field after k others of a record of a type
 unfoldable pub fieldType : ℕ → ℕ → FieldType

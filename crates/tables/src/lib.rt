@@ -8,8 +8,9 @@ ghost use Prim.Native.Nat.{_≤_};
 ghost use lib.Dec.{leb, ltb};
 ghost use lib.ListN.{length, drop};
 ghost use Rattle.tables.specs.Groups.{picked};
-ghost use Rattle.tables.specs.Tables.{fieldCount, markRows, joined};
-ghost use Rattle.tables.specs.Codes.{codeRows};
+ghost use Rattle.tables.specs.Tables.{fieldCount, markRows};
+ghost use Rattle.tables.specs.InsideRows.{joined};
+ghost use Rattle.tables.specs.InsideCodes.{codeRows};
 
 // Whether the type of the column may follow the type of the row.
 const FOLLOWS: [[bool; 9]; 9] = [

@@ -1,3 +1,4 @@
-pub mod SiteTotals
-pub mod Sums
+pub mod InsideBounds
+pub mod InsideSiteTotals
+pub mod InsideSums
 pub mod Totals

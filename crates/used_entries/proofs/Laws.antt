@@ -18,18 +18,18 @@ use Rattle.lists.specs.Below.{firstFrom, firstBelow}
 use Rattle.lists.specs.Selections.{any}
 use Rattle.lists.proofs.Below.{none-is-end}
 use Rattle.lists.proofs.Selections.{and-right}
-use Rattle.buckets.specs.Chains.{Only}
+use Rattle.buckets.specs.InsideChains.{Only}
 use Rattle.entries.specs.declared.Entry.{Entry}
-use Rattle.entries.specs.Words.{entryAt, entriesFrom, entriesOf}
+use Rattle.entries.specs.InsideWords.{entryAt, entriesFrom, entriesOf}
 use Rattle.soundness.specs.Sound.{sameSubject}
 use Rattle.soundness.proofs.Meaning.{alike-means}
 use Rattle.soundness.proofs.Tests.{equal, both}
-use Rattle.sound_ledgers.specs.Keys.{keyOf}
+use Rattle.sound_ledgers.specs.InsideKeys.{keyOf}
 use Rattle.booking.specs.Booking.{isLiveOrHeld}
 use Rattle.used_entries.specs.declared.Search.{Search}
 use Rattle.used_entries.specs.declared.Search.the-variants.{File, Stored, Named}
-use Rattle.used_entries.specs.Keyed.{keyIn}
-use Rattle.used_entries.specs.Searches.{namesAs, namedFirst, wants, wantedKey, wantedAt}
+use Rattle.used_entries.specs.InsideKeyed.{keyIn}
+use Rattle.used_entries.specs.InsideSearches.{namesAs, namedFirst, wants, wantedKey, wantedAt}
 
 -- ---- what is looked for has the key that is looked for
 wanted-key : (search : Search) (e : Entry) → wants search e ≡ true → keyOf (e .sender) (e .id) ≡ wantedKey search

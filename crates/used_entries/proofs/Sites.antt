@@ -16,10 +16,10 @@ use Rattle.lists.proofs.Reflected.{both-of}
 use Rattle.calendar.specs.Periods.{sharesDay}
 use Rattle.entries.specs.declared.Entry.{Entry}
 use Rattle.entries.specs.Entries.{period}
-use Rattle.entries.specs.Words.{entryAt, entriesFrom, entriesOf}
+use Rattle.entries.specs.InsideWords.{entryAt, entriesFrom, entriesOf}
 use Rattle.soundness.specs.Sound.{isLivePeriod}
-use Rattle.buckets.specs.Chains.{Only}
-use Rattle.used_entries.specs.Sited.{siteIn, overlapsEntry}
+use Rattle.buckets.specs.InsideChains.{Only}
+use Rattle.used_entries.specs.InsideSited.{siteIn, overlapsEntry}
 
 module _ (words : List ℕ) (amounts : List ℤ) where
   pub overlap-only : (a : Entry) (n : ℕ) → Only (λ (p : ℕ). overlapsEntry a (entryAt words amounts p)) (siteIn words amounts) n (a .site)

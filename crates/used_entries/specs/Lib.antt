@@ -1,3 +1,3 @@
-pub mod Keyed
-pub mod Searches
-pub mod Sited
+pub mod InsideKeyed
+pub mod InsideSearches
+pub mod InsideSited

@@ -4,16 +4,16 @@ ghost use mathlib.Core.Path.{_≡_};
 ghost use Prim.Native.Nat.{ℕ, _+_};
 ghost use lib.ListN.{getD};
 ghost use Rattle.lists.specs.First.{firstWhere};
-ghost use Rattle.entries.specs.Words.{RoomFor, entriesOf};
-ghost use Rattle.buckets.specs.Chains.{ChainRoom};
-ghost use Rattle.used_entries.specs.Sited.{BySite, overlapsEntry};
+ghost use Rattle.entries.specs.InsideWords.{RoomFor, entriesOf};
+ghost use Rattle.buckets.specs.InsideChains.{ChainRoom};
+ghost use Rattle.used_entries.specs.InsideSited.{BySite, overlapsEntry};
 ghost use mathlib.Core.Bool.{_&&_};
 ghost use lib.Dec.{eqb};
 ghost use Rattle.lists.specs.Below.{firstBelow};
 ghost use Rattle.lists.specs.Selections.{any};
 ghost use Rattle.booking.specs.Booking.{isStored};
-ghost use Rattle.used_entries.specs.Keyed.{ByKey};
-ghost use Rattle.used_entries.specs.Searches.{namedFirst, wants, wantedKey, wantedAt};
+ghost use Rattle.used_entries.specs.InsideKeyed.{ByKey};
+ghost use Rattle.used_entries.specs.InsideSearches.{namedFirst, wants, wantedKey, wantedAt};
 use entries::Entry;
 
 // Puts the first n entries into the chains of their sites, whatever they are: what isn't a live period fails the test itself.

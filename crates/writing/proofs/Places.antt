@@ -13,7 +13,7 @@ use native.Mathlib.Numerals.{add-one}
 use native.Mathlib.Omega.{arith}
 use lib.ListN.{length, take, drop, set, length-append, take-append-drop}
 use lib.Seq.{length-take-le, take-set-le, take-at, drop-at, drop-drop, set-split}
-use Rattle.writing.specs.Writing.{writtenAt}
+use Rattle.writing.specs.InsideWriting.{writtenAt}
 
 module _ (out : List ℕ) (at : ℕ) where
   pub written-none : writtenAt out at [] ≡ out

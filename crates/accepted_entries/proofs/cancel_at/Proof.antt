@@ -6,7 +6,7 @@ use borrow.Author.Needs.{needs}
 use lib.ListN.{set}
 use Rattle.entries.specs.declared.Entry.{Entry}
 use Rattle.entries.specs.Entries.{inState}
-use Rattle.entries.specs.Words.{entriesOf}
+use Rattle.entries.specs.InsideWords.{entriesOf}
 use Rattle.entries.proofs.Words.{entry-of}
 use Rattle.accepted_entries.proofs.cancel_at.Statement.{statement}
 use Rattle.accepted_entries.proofs.cancel_at.Tie as tie

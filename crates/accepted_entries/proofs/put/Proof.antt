@@ -3,7 +3,7 @@
 use mathlib.Core.Path.{_∙_}
 use denote.Ref.{now}
 use borrow.Author.Needs.{needs}
-use Rattle.entries.specs.Words.{entriesOf}
+use Rattle.entries.specs.InsideWords.{entriesOf}
 use Rattle.entries.proofs.Words.{set-entries}
 use Rattle.accepted_entries.proofs.put.Statement.{statement}
 use Rattle.accepted_entries.proofs.put.Tie as tie

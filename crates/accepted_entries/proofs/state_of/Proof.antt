@@ -4,7 +4,7 @@ use denote.Ref.{now}
 use borrow.Author.Tests.{eq-eqb, ne-eqb, lt-ltb, le-ltb}
 use borrow.Author.Needs.{needs}
 use Rattle.entries.proofs.Words.{length-entries}
-use Rattle.accepted_entries.specs.Accepted.{stateAfter}
+use Rattle.accepted_entries.specs.InsideAccepted.{stateAfter}
 use Rattle.accepted_entries.proofs.state_of.Statement.{statement}
 use Rattle.accepted_entries.proofs.state_of.Tie as tie
 

@@ -10,9 +10,9 @@ use borrow.Author.Tests.{eq-eqb, ne-eqb}
 use borrow.Author.Needs.{needs}
 use lib.ListN.{set}
 use Rattle.entries.specs.declared.Entry.{Entry}
-use Rattle.entries.specs.Words.{entriesOf}
+use Rattle.entries.specs.InsideWords.{entriesOf}
 use Rattle.entries.proofs.Room.{room-same}
-use Rattle.accepted_entries.specs.Accepted.{withCancel}
+use Rattle.accepted_entries.specs.InsideAccepted.{withCancel}
 use Rattle.accepted_entries.proofs.write_cancel.Statement.{statement}
 use Rattle.accepted_entries.proofs.write_cancel.Tie as tie
 

@@ -7,11 +7,11 @@ use denote.Ref.{now}
 use borrow.Author.Needs.{needs}
 use lib.ListN.{length}
 use lib.Seq.{length-take-le}
-use Rattle.entries.specs.Words.{entriesOf}
+use Rattle.entries.specs.InsideWords.{entriesOf}
 use Rattle.entries.proofs.Words.{length-entries}
 use Rattle.entries.proofs.Room.{room-fewer, room-same}
 use Rattle.booking.specs.Acceptable.{billAt}
-use Rattle.file_bills.specs.Bills.{fileIn}
+use Rattle.file_bills.specs.InsideBills.{fileIn}
 use Rattle.accepted_entries.proofs.Cancels.{Cancelling, cancelling-none, cancelling-count, cancelling-end, room-left, cancelling-step}
 use Rattle.file_bills.proofs.Sources.{source-cancel}
 use Rattle.accepted_entries.proofs.write_cancels.Statement.{statement}

@@ -8,12 +8,12 @@ use borrow.Author.Needs.{needs}
 use lib.ListN.{length, set}
 use Rattle.lists.proofs.Selections.{length-split}
 use Rattle.bill_files.specs.Accepted.{Bill}
-use Rattle.entries.specs.Words.{entriesOf}
+use Rattle.entries.specs.InsideWords.{entriesOf}
 use Rattle.entries.specs.declared.Entry.{Entry}
 use Rattle.entries.proofs.Words.{length-entries}
 use Rattle.entries.proofs.Room.{room-fewer, room-same}
 use Rattle.booking.specs.Booking.{fileEntry, originals}
-use Rattle.file_bills.specs.Bills.{fileIn}
+use Rattle.file_bills.specs.InsideBills.{fileIn}
 use Rattle.accepted_entries.proofs.Assembled.{assembled, named-after}
 use Rattle.accepted_entries.proofs.Runs.{chain-room-fewer, chain-room-same}
 use Rattle.accepted_entries.proofs.write_entries.Statement.{statement}

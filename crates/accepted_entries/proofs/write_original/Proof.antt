@@ -12,10 +12,10 @@ use lib.Dec.{eqb}
 use lib.ListN.{set, take}
 use Rattle.entries.specs.declared.Entry.{Entry}
 use Rattle.entries.specs.Entries.{inState}
-use Rattle.entries.specs.Words.{entriesOf}
+use Rattle.entries.specs.InsideWords.{entriesOf}
 use Rattle.entries.proofs.Room.{room-fewer}
 use Rattle.entries.proofs.Words.{take-entries}
-use Rattle.accepted_entries.specs.Accepted.{withOriginal, stateAfter, originalAfter}
+use Rattle.accepted_entries.specs.InsideAccepted.{withOriginal, stateAfter, originalAfter}
 use Rattle.accepted_entries.proofs.Runs.{one-at-most, by-site-next, chain-room-fewer}
 use Rattle.accepted_entries.proofs.write_original.Statement.{statement}
 use Rattle.accepted_entries.proofs.write_original.Tie as tie

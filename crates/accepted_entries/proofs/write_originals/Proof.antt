@@ -7,13 +7,13 @@ use denote.Ref.{now}
 use borrow.Author.Needs.{needs}
 use lib.Dec.{eqb}
 use lib.ListN.{length, take}
-use Rattle.entries.specs.Words.{entriesOf}
+use Rattle.entries.specs.InsideWords.{entriesOf}
 use Rattle.entries.proofs.Words.{length-entries}
 use Rattle.entries.proofs.Room.{room-fewer, room-same}
-use Rattle.used_entries.specs.Sited.{BySite}
+use Rattle.used_entries.specs.InsideSited.{BySite}
 use Rattle.booking.specs.Acceptable.{billAt}
-use Rattle.file_bills.specs.Bills.{fileIn, isCancel}
-use Rattle.accepted_entries.specs.Accepted.{stateAfter}
+use Rattle.file_bills.specs.InsideBills.{fileIn, isCancel}
+use Rattle.accepted_entries.specs.InsideAccepted.{stateAfter}
 use Rattle.accepted_entries.proofs.Originals.{Originating, originating-none, originating-count, originating-end, originating-held, room-left, originating-step}
 use Rattle.accepted_entries.proofs.Runs.{chain-room-same, held-bound}
 use Rattle.file_bills.proofs.Sources.{source-cancel}

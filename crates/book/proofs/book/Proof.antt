@@ -6,9 +6,9 @@ use denote.Ref.{now}
 use borrow.Author.Tests.{not-true, not-false}
 use Rattle.refusals.specs.Check.{settingsFit}
 use Rattle.validation.proofs.Limits.{too-many-bytes}
-use Rattle.entries.specs.Words.{entriesOf}
+use Rattle.entries.specs.InsideWords.{entriesOf}
 use Rattle.booking.specs.Booking.{Input, inputOf}
-use Rattle.book.specs.Book.{Ready}
+use Rattle.book.specs.InsideBook.{Ready}
 use Rattle.book.proofs.Answers.{refuses}
 use Rattle.book.proofs.Refusing.{refused-104, refused-105, refused-103}
 use Rattle.book.proofs.Rooms.{used-room, run-room}

@@ -9,12 +9,12 @@ use Rattle.buckets.proofs.ChainRoom.{chain-room}
 use Rattle.refusals.specs.declared.Outcome.{Outcome}
 use Rattle.refusals.specs.Refusals.{firstRefusal}
 use Rattle.entries.specs.declared.Entry.{Entry}
-use Rattle.entries.specs.Words.{entriesOf}
+use Rattle.entries.specs.InsideWords.{entriesOf}
 use Rattle.entries.proofs.Words.{length-entries, take-entries}
 use Rattle.entries.proofs.Room.{room-fewer}
 use Rattle.booking.specs.Booking.{Input, inputOf}
-use Rattle.file_bills.specs.Bills.{fileIn}
-use Rattle.ledger_tests.specs.Tests.{Named}
+use Rattle.file_bills.specs.InsideBills.{fileIn}
+use Rattle.ledger_tests.specs.InsideTests.{Named}
 use Rattle.book.proofs.Answers.{refuses, accepts}
 use Rattle.book.proofs.Refusing.{ledgerTests, refused-ledger}
 use Rattle.book.proofs.Rooms.{same-tests}

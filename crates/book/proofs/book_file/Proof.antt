@@ -5,9 +5,10 @@ use mathlib.Core.Logic.{⊎-elim}
 use Prim.Native.Nat.{ℕ, _≤_, _<_}
 use denote.Ref.{now}
 use lib.ListN.{length, length-replicate}
-use Rattle.records.specs.Text.{linesOf, Placed, LinesFound}
+use Rattle.records.specs.Text.{linesOf}
+use Rattle.records.specs.InsidePlacedLines.{Placed, LinesFound}
 use Rattle.validation.proofs.Limits.{too-many-lines, within-limits}
-use Rattle.entries.specs.Words.{entriesOf}
+use Rattle.entries.specs.InsideWords.{entriesOf}
 use Rattle.booking.specs.Booking.{Input, inputOf}
 use Rattle.book.proofs.Answers.{refuses}
 use Rattle.book.proofs.Refusing.{refused-103}

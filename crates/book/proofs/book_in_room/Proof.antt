@@ -3,7 +3,7 @@
 use mathlib.Core.Path.{_≡_, sym, ap, _∙_}
 use denote.Ref.{now}
 use Rattle.refusals.specs.declared.Outcome.{Outcome}
-use Rattle.entries.specs.Words.{entriesOf}
+use Rattle.entries.specs.InsideWords.{entriesOf}
 use Rattle.booking.specs.Booking.{Input, inputOf}
 use Rattle.book.proofs.Answers.{refuses}
 use Rattle.book.proofs.Refusing.{refused-tests}

@@ -2,7 +2,7 @@
 -- Assumes nothing.
 use mathlib.Core.Path.{refl}
 use Prim.Native.Nat.{_+_, _*_, _/_, _%_}
-use Rattle.buckets.specs.Buckets.{bucketOf}
+use Rattle.buckets.specs.InsideBuckets.{bucketOf}
 use Rattle.buckets.proofs.Laws.{bucket-fits, bucket-below}
 use borrow.Author.Needs.{needs}
 use native.Mathlib.Omega.{arith}

@@ -3,7 +3,7 @@
 use denote.Ref.{now}
 use mathlib.Core.Path.{_≡_, sym, subst}
 use Prim.Native.Nat.{ℕ, _-_}
-use Rattle.buckets.specs.Trees.{Indexed}
+use Rattle.buckets.specs.InsideTrees.{Indexed}
 use Rattle.buckets.proofs.Trees.{Unrepeated, unrepeated-none, unrepeated-more, unrepeated-here, unrepeated-end}
 use borrow.Author.Needs.{needs}
 use native.Mathlib.Omega.{arith}

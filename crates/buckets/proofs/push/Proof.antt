@@ -4,8 +4,8 @@ use mathlib.Core.Path.{_∙_, sym, ap}
 use Prim.Native.Nat.{_+_}
 use denote.Ref.{now}
 use lib.ListN.{length, length-set, getD}
-use Rattle.buckets.specs.Buckets.{bucketOf}
-use Rattle.buckets.specs.Chains.{Pushed}
+use Rattle.buckets.specs.InsideBuckets.{bucketOf}
+use Rattle.buckets.specs.InsideChains.{Pushed}
 use Rattle.buckets.proofs.Chains.{chained-more}
 use borrow.Author.Needs.{needs}
 use Rattle.buckets.proofs.push.Statement.{statement}

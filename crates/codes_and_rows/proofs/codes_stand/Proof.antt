@@ -1,8 +1,8 @@
 -- `codes_stand` meets its contract: the four codes are tried in turn, and the constants of the code are the numbers of their texts.
 -- Assumes nothing.
 use Rattle.codes_and_rows.proofs.CodeFields.{code-fields-small, either-asked, wrong-commodity, wrong-unit, wrong-cancel, last-code}
-use Rattle.codes_and_rows.specs.Numbers.{isEither, unitIf}
-use Rattle.readings.specs.LeadingBytes.{packed, packedAfter}
+use Rattle.codes_and_rows.specs.InsideNumbers.{isEither, unitIf}
+use Rattle.readings.specs.InsideLeadingBytes.{packed, packedAfter}
 use Rattle.format.specs.Format.{commodityFields, unitFields, cancelFields, exemptionFields}
 use Rattle.lists.specs.Written.{written}
 use denote.Ref.{now}

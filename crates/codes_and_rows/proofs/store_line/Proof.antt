@@ -11,11 +11,11 @@ use lib.IntN.{ℤ}
 use lib.Dec.{lit<}
 use lib.ListN.{length, getD, set, length-set}
 use Rattle.lists.proofs.Signed.{value-kept}
-use Rattle.readings.specs.AmountReadings.{signedOf}
+use Rattle.readings.specs.InsideAmountReadings.{signedOf}
 use Rattle.columns.proofs.Rows.{field-lent, column-inside, row-more}
-use Rattle.columns.specs.Rows.{RowStored}
+use Rattle.columns.specs.InsideRows.{RowStored}
 use Rattle.columns.specs.Columns.{fieldOf}
-use Rattle.codes_and_rows.specs.Numbers.{columnNumbers}
+use Rattle.codes_and_rows.specs.InsideNumbers.{columnNumbers}
 use Rattle.codes_and_rows.proofs.Held.{field-small, stored-after, stored-type, type-stored, stored-number, stored-yes, stored-no}
 use Rattle.codes_and_rows.proofs.store_line.Statement.{statement}
 use Rattle.codes_and_rows.proofs.store_line.Tie as tie

@@ -1,7 +1,7 @@
 -- `column_fields` meets its contract: the constant is what the columns' table computes to.
 -- Assumes nothing.
 use mathlib.Core.Path.{refl}
-use Rattle.lists.specs.Tabulate.{tabulate}
+use Rattle.lists.specs.InsideTabulate.{tabulate}
 use Rattle.columns.specs.Columns.{fieldOf}
 use Rattle.columns.proofs.column_fields.Statement.{statement}
 use Rattle.columns.proofs.column_fields.Tie as tie

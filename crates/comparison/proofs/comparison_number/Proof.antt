@@ -1,7 +1,7 @@
 -- `comparison::comparison_number` meets its contract: it answers 1 or 0 by what `amounts::is_number` tells.
 -- Assumes nothing.
 use mathlib.Core.Path.{_≡_, _∙_, ap}
-use Rattle.comparison.specs.Readings.{flag}
+use Rattle.comparison.specs.InsideReadings.{flag}
 use borrow.Author.Needs.{needs}
 use Rattle.comparison.proofs.comparison_number.Statement.{statement}
 use Rattle.comparison.proofs.comparison_number.Tie as tie

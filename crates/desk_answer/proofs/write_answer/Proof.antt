@@ -4,7 +4,7 @@ use mathlib.Core.Path.{_∙_, ap}
 use denote.Ref.{now}
 use lib.ListN.{length}
 use Rattle.booking.specs.Booking.{Result, resultOf}
-use Rattle.writing.specs.Writing.{writtenAt}
+use Rattle.writing.specs.InsideWriting.{writtenAt}
 use Rattle.desk_answer.specs.Line.{lineOf}
 use Rattle.desk_answer.proofs.Lines.{line-short}
 use borrow.Author.Needs.{needs}

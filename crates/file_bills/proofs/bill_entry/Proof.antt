@@ -13,7 +13,7 @@ use lib.Seq.{getD-take}
 use Rattle.records.specs.Text.{linesOf}
 use Rattle.columns.proofs.Laws.{column-at, charge-at, usage-at}
 use Rattle.format.specs.Format.{lineAt}
-use Rattle.file_bills.specs.Reading.{entryFrom}
+use Rattle.file_bills.specs.InsideReading.{entryFrom}
 use Rattle.file_bills.proofs.Lines.{bill-entry}
 use Rattle.file_bills.proofs.bill_entry.Statement.{statement}
 use Rattle.file_bills.proofs.bill_entry.Tie as tie

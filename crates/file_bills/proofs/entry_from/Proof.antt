@@ -7,7 +7,7 @@ use mir.Syntax.{w64}
 use mir.Val.{toZ, ofZ}
 use borrow.Author.Needs.{needs}
 use lib.IntN.{ℤ, pos}
-use Rattle.file_bills.specs.Reading.{entryFrom}
+use Rattle.file_bills.specs.InsideReading.{entryFrom}
 use Rattle.file_bills.proofs.entry_from.Statement.{statement}
 use Rattle.file_bills.proofs.entry_from.Tie as tie
 

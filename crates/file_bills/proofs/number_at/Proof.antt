@@ -8,7 +8,7 @@ use denote.Ref.{now}
 use borrow.Author.Needs.{needs}
 use lib.ListN.{length, getD, drop, length-drop}
 use lib.Seq.{length-take-le}
-use Rattle.columns.specs.Columns.{columnAt}
+use Rattle.columns.specs.InsideColumns.{columnAt}
 use Rattle.columns.proofs.Rows.{column-inside}
 use Rattle.file_bills.proofs.number_at.Statement.{statement}
 use Rattle.file_bills.proofs.number_at.Tie as tie

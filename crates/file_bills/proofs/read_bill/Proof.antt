@@ -14,7 +14,7 @@ use Rattle.columns.proofs.Laws.{column-at}
 use Rattle.format.specs.Format.{lineAt}
 use Rattle.bill_files.specs.Accepted.{isBill}
 use Rattle.entries.proofs.Room.{room-fewer}
-use Rattle.file_bills.specs.Reading.{BillRoom}
+use Rattle.file_bills.specs.InsideReading.{BillRoom}
 use Rattle.file_bills.proofs.Laws.{reading-skip, reading-more, reading-same}
 use Rattle.file_bills.proofs.Lines.{bill-type, reference-is}
 use Rattle.file_bills.proofs.read_bill.Statement.{statement}

@@ -8,7 +8,7 @@ use borrow.Author.Needs.{needs}
 use lib.ListN.{length}
 use Rattle.records.specs.Text.{linesOf}
 use Rattle.entries.proofs.Room.{room-same}
-use Rattle.file_bills.specs.Reading.{Reading}
+use Rattle.file_bills.specs.InsideReading.{Reading}
 use Rattle.file_bills.proofs.Laws.{reading-none}
 use Rattle.file_bills.proofs.read_bills.Statement.{statement}
 use Rattle.file_bills.proofs.read_bills.Tie as tie

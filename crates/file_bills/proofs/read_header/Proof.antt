@@ -15,7 +15,8 @@ use lib.Seq.{getD-take}
 use Rattle.lists.specs.Bytes.{sameBytes}
 use Rattle.lists.specs.Written.{written}
 use Rattle.digits.specs.Digits.{digitsOf}
-use Rattle.records.specs.Text.{linesOf, At}
+use Rattle.records.specs.Text.{linesOf}
+use Rattle.records.specs.InsidePlacedLines.{At}
 use Rattle.records.proofs.Placed.{placed-at}
 use Rattle.records.specs.Records.{field}
 use Rattle.columns.specs.Columns.{chargeIn}

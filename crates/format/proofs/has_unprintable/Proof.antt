@@ -1,6 +1,6 @@
 -- `has_unprintable` meets its contract. The loop's invariant: each byte passed is printable.
 -- Assumes nothing.
-use Rattle.records.specs.Text.{part}
+use Rattle.records.specs.InsidePlacedLines.{part}
 use native.Mathlib.Nat.{le-refl}
 use Prim.Native.Nat.{ℕ, _+_, _-_, _≤_, _<_}
 use mathlib.Core.Path.{_≡_, sym, _∙_}

@@ -1,7 +1,7 @@
 -- `headers::is_among` meets its contract. The loop searches for the first group that is the sender, and tries each of the whole groups.
 -- Assumes nothing.
 use Rattle.headers.proofs.Laws.{group-told}
-use Rattle.headers.specs.Steps.{isSender}
+use Rattle.headers.specs.InsideSteps.{isSender}
 use Rattle.lists.proofs.Below.{Searched, searched-none, searched-more, searched-here, searched-end, found-some, found-none}
 use lib.ListN.{length}
 use denote.Ref.{now}

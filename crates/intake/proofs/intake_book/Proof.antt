@@ -42,16 +42,17 @@ use denote.Struct.Laws as LL
 use denote.Triple.Walked.{says, needs, Stays, stay-none, stay-none-slice, stay-slice, gave-slice, walkOf, goes-none, goes-none-slice, goes-slice, goes-gave-slice, Walks, ends-at, walked, walk-meets}
 use denote.Exit.{yes}
 use Rattle.entries.specs.declared.Entry.{Entry}
-use Rattle.entries.specs.Words.{RoomFor, entriesOf}
+use Rattle.entries.specs.InsideWords.{RoomFor, entriesOf}
 use Rattle.entries.proofs.Entry as T
-use Rattle.soundness.specs.Room.{readCount}
+use Rattle.soundness.specs.InsideRoom.{readCount}
 use Rattle.runs.proofs.Laws.{read-cap, read-below, has-room}
 use Rattle.runs.proofs.Local.{big-lit, local-typed, local-lent, local-lends, local-back}
 use Rattle.runs.proofs.Turn.{tyAt}
 use Rattle.booking.specs.Booking.{Input, inputOf, bookResult, runAfter}
 use Rattle.lent_ledger.specs.declared.BookReply.{BookReply}
-use Rattle.lent_ledger.specs.BookReplies.{bookReply, HostBooked, writtenTo, writtenFrom}
-use Rattle.lent_ledger.specs.Told.{Told}
+use Rattle.lent_ledger.specs.BookReplies.{bookReply, HostBooked}
+use Rattle.lent_ledger.specs.InsideWritten.{writtenTo, writtenFrom}
+use Rattle.lent_ledger.specs.InsideTold.{Told}
 use Rattle.records.specs.Text.{linesOf}
 use Rattle.lent_ledger.proofs.BookReply as R
 use Rattle.lent_ledger.proofs.BookReply.Laws as R′

@@ -10,9 +10,9 @@ use Rattle.buckets.proofs.ChainRoom.{chain-room}
 use Rattle.refusals.specs.declared.Outcome.{Outcome}
 use Rattle.bill_files.specs.Accepted.{BillFile}
 use Rattle.entries.specs.declared.Entry.{Entry}
-use Rattle.entries.specs.Words.{entriesOf}
+use Rattle.entries.specs.InsideWords.{entriesOf}
 use Rattle.booking.specs.Booking.{hasFile}
-use Rattle.file_bills.specs.Bills.{fileIn}
+use Rattle.file_bills.specs.InsideBills.{fileIn}
 use Rattle.ledger_tests.proofs.Order.{has-file-is, refused-file, refused-cancels, refused-storage}
 use borrow.Author.Needs.{needs}
 use native.Mathlib.Omega.{arith}

@@ -7,14 +7,14 @@ use native.Mathlib.Omega.{arith}
 use denote.Ref.{now}
 use borrow.Author.Needs.{needs}
 use lib.ListN.{take}
-use Rattle.entries.specs.Words.{entriesOf}
+use Rattle.entries.specs.InsideWords.{entriesOf}
 use Rattle.entries.proofs.Room.{room-fewer}
 use Rattle.entries.proofs.Words.{length-entries}
 use Rattle.booking.specs.Acceptable.{billAt}
 use Rattle.booking.specs.Booking.{firstUnopposed}
-use Rattle.file_bills.specs.Bills.{fileIn}
+use Rattle.file_bills.specs.InsideBills.{fileIn}
 use Rattle.file_bills.proofs.Sources.{source-cancel}
-use Rattle.ledger_tests.specs.Tests.{cancelledBy}
+use Rattle.ledger_tests.specs.InsideTests.{cancelledBy}
 use Rattle.ledger_tests.proofs.Opposed.{unopposedIn, opposed-same}
 use Rattle.ledger_tests.proofs.Resumed.{Resumed, resumed-none, resumed-here, resumed-more, resumed-end}
 use Rattle.ledger_tests.proofs.first_unopposed.Statement.{statement}

@@ -11,12 +11,12 @@ use lib.ListN.{drop}
 use Rattle.lists.specs.Selections.{any}
 use Rattle.lists.proofs.Reflected.{neither-of}
 use Rattle.bill_files.specs.Accepted.{Bill}
-use Rattle.entries.specs.Words.{entriesOf}
+use Rattle.entries.specs.InsideWords.{entriesOf}
 use Rattle.entries.specs.declared.Entry.{Entry}
 use Rattle.entries.proofs.Room.{room-fewer}
 use Rattle.booking.specs.Acceptable.{noBill, billAt}
 use Rattle.booking.specs.Booking.{isStored, hasStored}
-use Rattle.file_bills.specs.Bills.{fileIn}
+use Rattle.file_bills.specs.InsideBills.{fileIn}
 use Rattle.ledger_tests.proofs.Stored.{any-here, any-more, any-end}
 use Rattle.ledger_tests.proofs.has_stored.Statement.{statement}
 use Rattle.ledger_tests.proofs.has_stored.Tie as tie

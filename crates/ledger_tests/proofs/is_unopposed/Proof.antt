@@ -6,7 +6,7 @@ use native.Mathlib.Omega.{arith}
 use denote.Ref.{now}
 use borrow.Author.Needs.{needs}
 use borrow.Author.Tests.{eq-eqb, ne-eqb}
-use Rattle.entries.specs.Words.{entryAt}
+use Rattle.entries.specs.InsideWords.{entryAt}
 use Rattle.entries.proofs.Room.{room-fewer}
 use Rattle.soundness.specs.Sound.{opposite}
 use Rattle.ledger_tests.proofs.is_unopposed.Statement.{statement}

@@ -9,7 +9,7 @@ use borrow.Author.Needs.{needs}
 use borrow.Author.Tests.{eq-eqb, ne-eqb, lt-ltb, le-ltb}
 use lib.Dec.{ltb}
 use lib.ListN.{set}
-use Rattle.ledger_tests.specs.Tests.{Tried}
+use Rattle.ledger_tests.specs.InsideTests.{Tried}
 use Rattle.ledger_tests.proofs.Naming.{tried-other, tried-none, tried-some}
 use Rattle.ledger_tests.proofs.name_cancel.Statement.{statement}
 use Rattle.ledger_tests.proofs.name_cancel.Tie as tie

@@ -7,10 +7,10 @@ use denote.Ref.{now}
 use borrow.Author.Needs.{needs}
 use borrow.Author.Tests.{not-true, not-false}
 use lib.ListN.{length}
-use Rattle.entries.specs.Words.{entriesOf}
+use Rattle.entries.specs.InsideWords.{entriesOf}
 use Rattle.entries.proofs.Room.{room-fewer}
 use Rattle.booking.specs.Booking.{firstUnnamed}
-use Rattle.file_bills.specs.Bills.{fileIn}
+use Rattle.file_bills.specs.InsideBills.{fileIn}
 use Rattle.ledger_tests.proofs.Naming.{Naming, unnamedIn, naming-none, naming-fail, naming-step, naming-all}
 use Rattle.ledger_tests.proofs.Resumed.{resumed-end}
 use Rattle.ledger_tests.proofs.name_cancels.Statement.{statement}

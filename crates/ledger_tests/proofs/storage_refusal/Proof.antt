@@ -11,10 +11,10 @@ use Rattle.refusals.specs.declared.Outcome.{Outcome}
 use Rattle.refusals.proofs.Stages.{line-fails, line-passes, none-fails}
 use Rattle.bill_files.specs.Accepted.{BillFile}
 use Rattle.entries.specs.declared.Entry.{Entry}
-use Rattle.entries.specs.Words.{entriesOf}
+use Rattle.entries.specs.InsideWords.{entriesOf}
 use Rattle.entries.proofs.Words.{length-entries}
 use Rattle.booking.specs.Booking.{hasStored}
-use Rattle.file_bills.specs.Bills.{fileIn}
+use Rattle.file_bills.specs.InsideBills.{fileIn}
 use borrow.Author.Needs.{needs}
 use native.Mathlib.Omega.{arith}
 use Rattle.ledger_tests.proofs.storage_refusal.Statement.{statement}

@@ -42,11 +42,11 @@ use denote.Struct.Laws as LL
 use denote.Triple.Walked.{says, needs, Stays, stay-none, stay-none-slice, stay-slice, gave-slice, walkOf, goes-none, goes-none-slice, goes-slice, goes-gave-slice, Walks, ends-at, walked, walk-meets}
 use denote.Exit.{yes}
 use Rattle.entries.specs.declared.Entry.{Entry}
-use Rattle.entries.specs.Words.{RoomFor, entriesOf}
+use Rattle.entries.specs.InsideWords.{RoomFor, entriesOf}
 use Rattle.entries.proofs.Entry as T
-use Rattle.soundness.specs.Room.{readCount}
+use Rattle.soundness.specs.InsideRoom.{readCount}
 use Rattle.entries.proofs.Room.{room-same}
-use Rattle.runs.specs.Copies.{placed}
+use Rattle.runs.specs.InsideCopies.{placed}
 use Rattle.runs.proofs.Again.{SharedAgain, shares-again, comes-home}
 use Rattle.runs.proofs.Lent.{words}
 use Rattle.runs.proofs.Runs.{Load, Store, load-got, load-called, store-got, store-called}
@@ -58,8 +58,9 @@ use Rattle.runs.proofs.store.Symbol.{name as #store}
 use Rattle.runs.proofs.store.Met as store-thm
 use Rattle.booking.specs.Booking.{Input, inputOf, bookResult, runAfter}
 use Rattle.lent_ledger.specs.declared.BookReply.{BookReply}
-use Rattle.lent_ledger.specs.BookReplies.{bookReply, HostBooked, writtenTo, writtenFrom}
-use Rattle.lent_ledger.specs.Told.{Told}
+use Rattle.lent_ledger.specs.BookReplies.{bookReply, HostBooked}
+use Rattle.lent_ledger.specs.InsideWritten.{writtenTo, writtenFrom}
+use Rattle.lent_ledger.specs.InsideTold.{Told}
 use Rattle.records.specs.Text.{linesOf}
 use Rattle.lent_ledger.proofs.BookReply as R
 use Rattle.lent_ledger.proofs.BookReply.Laws as R′

@@ -6,7 +6,8 @@ use Prim.Native.Nat.{ℕ, _≤_}
 use native.Mathlib.Omega.{arith}
 use denote.Ref.{now}
 use lib.ListN.{length-replicate}
-use Rattle.records.specs.Text.{linesOf, Placed, LinesFound}
+use Rattle.records.specs.Text.{linesOf}
+use Rattle.records.specs.InsidePlacedLines.{Placed, LinesFound}
 use borrow.Author.Needs.{needs}
 use Rattle.lent_ledger.proofs.places_told.Statement.{statement}
 use Rattle.lent_ledger.proofs.places_told.Tie as tie

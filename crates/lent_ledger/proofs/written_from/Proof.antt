@@ -8,7 +8,7 @@ use denote.Ref.{now}
 use lib.ListN.{length, getD}
 use Rattle.entries.specs.declared.Entry.{Entry}
 use Rattle.entries.specs.Entries.{blank}
-use Rattle.entries.specs.Words.{entriesOf}
+use Rattle.entries.specs.InsideWords.{entriesOf}
 use Rattle.entries.proofs.Words.{length-entries, entry-of}
 use Rattle.entries.proofs.Room.{room-fewer}
 use Rattle.lent_ledger.proofs.BookLaws.{from-none, from-file, from-cancel, from-original}

@@ -10,7 +10,8 @@ use borrow.Author.Needs.{needs}
 use lib.ListN.{getD}
 use Rattle.format.specs.Format.{lineAt, unformatted, firstUnformatted}
 use Rattle.records.proofs.Placed.{placed-at}
-use Rattle.records.specs.Text.{linesOf, At}
+use Rattle.records.specs.Text.{linesOf}
+use Rattle.records.specs.InsidePlacedLines.{At}
 use Rattle.line_reader.proofs.Unread.{first-here, first-none}
 use Rattle.line_reader.proofs.first_unformatted.Statement.{statement}
 use Rattle.line_reader.proofs.first_unformatted.Tie as tie

@@ -1,7 +1,7 @@
 -- `head_filled` meets its contract: the two lengths are asked one after the other.
 -- Assumes nothing.
 use borrow.Author.Tests.{eq-eqb, ne-eqb}
-use Rattle.line_reader.specs.LineReader.{headFilled}
+use Rattle.line_reader.specs.InsideLineReader.{headFilled}
 use Rattle.line_reader.proofs.head_filled.Statement.{statement}
 use Rattle.line_reader.proofs.head_filled.Tie as tie
 

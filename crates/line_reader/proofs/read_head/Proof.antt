@@ -6,9 +6,9 @@ use native.Mathlib.Omega.{arith}
 use denote.Ref.{now}
 use borrow.Author.Tests.{not-false, not-true}
 use borrow.Author.Needs.{needs}
-use Rattle.readings.specs.Readings.{FieldRead}
+use Rattle.readings.specs.InsideReadings.{FieldRead}
 use Rattle.fields.specs.declared.FieldType.the-variants.{RecordId, Char}
-use Rattle.records.specs.Text.{part}
+use Rattle.records.specs.InsidePlacedLines.{part}
 use Rattle.line_reader.proofs.Heads.{first-miss, first-inside, first-last, second-miss, second-inside, second-last, third-miss, third-inside, head-unknown, head-all}
 use Rattle.line_reader.proofs.read_head.Statement.{statement}
 use Rattle.line_reader.proofs.read_head.Tie as tie

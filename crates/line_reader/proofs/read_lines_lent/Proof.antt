@@ -17,16 +17,17 @@ use Rattle.lists.specs.Bytes.{sameBytes}
 use Rattle.fields.specs.Fields.{fitsType}
 use Rattle.fields.specs.declared.FieldType.{FieldType}
 use Rattle.readings.proofs.Ends.{field-length}
-use Rattle.readings.specs.LeadingBytes.{leadingField}
-use Rattle.readings.specs.Readings.{FieldRead}
+use Rattle.readings.specs.InsideLeadingBytes.{leadingField}
+use Rattle.readings.specs.InsideReadings.{FieldRead}
 use Rattle.columns.proofs.Rows.{Reading, reading-none, reading-end}
 use Rattle.format.specs.Format.{lineAt}
-use Rattle.tables.specs.Codes.{typeOfCode}
+use Rattle.tables.specs.InsideCodes.{typeOfCode}
 use Rattle.tables.proofs.Laws.{count-most}
 use Rattle.tables.specs.Tables.{fieldType}
 use Rattle.records.proofs.Placed.{placed-at}
-use Rattle.records.specs.Text.{linesOf, part, At}
-use Rattle.line_reader.specs.LineReader.{unread, firstUnread, FilledTo, HeadRead}
+use Rattle.records.specs.Text.{linesOf}
+use Rattle.records.specs.InsidePlacedLines.{part, At}
+use Rattle.line_reader.specs.InsideLineReader.{unread, firstUnread, FilledTo, HeadRead}
 use Rattle.line_reader.proofs.Unread.{unread-bytes, unread-count, unread-field, first-none}
 use Rattle.line_reader.proofs.Lines.{FirstSays, first-says, says-kept, LinesTo, lines-none, lines-more, lines-end, stops, line-stored}
 use Rattle.line_reader.proofs.Heads.{count-least}

@@ -1,7 +1,7 @@
 -- `lists::first_so_far` meets its contract: it asks what the definition asks, in the same order.
 -- Assumes nothing.
 use borrow.Author.Tests.{eq-eqb, ne-eqb}
-use Rattle.lists.specs.FirstSoFar.{firstAfter}
+use Rattle.lists.specs.InsideFirstSoFar.{firstAfter}
 use Rattle.lists.proofs.first_so_far.Statement.{statement}
 use Rattle.lists.proofs.first_so_far.Tie as tie
 

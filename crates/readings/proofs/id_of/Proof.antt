@@ -5,7 +5,7 @@ use Rattle.readings.proofs.AmountsMissed.{told-not}
 use Rattle.readings.proofs.Missed.{id-ends}
 use Rattle.readings.proofs.Ends.{end-ends}
 use Rattle.readings.proofs.Fields.{empty-read}
-use Rattle.readings.specs.LeadingBytes.{Ends}
+use Rattle.readings.specs.InsideLeadingBytes.{Ends}
 use Rattle.fields.specs.declared.FieldType.the-variants.{RecordId}
 use denote.Ref.{now}
 use borrow.Author.Tests.{not-false, not-true}

@@ -2,7 +2,7 @@
 -- Assumes nothing.
 use Rattle.readings.proofs.LeadingTexts.{packed-none, packed-more, byte-more, byte-room}
 use Rattle.readings.proofs.Ends.{end-more}
-use Rattle.readings.specs.LeadingBytes.{fieldEnd, packed}
+use Rattle.readings.specs.InsideLeadingBytes.{fieldEnd, packed}
 use denote.Ref.{now}
 use lib.Dec.{lit<}
 use lib.ListN.{length, getD, take}

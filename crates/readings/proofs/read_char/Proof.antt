@@ -6,7 +6,7 @@ use Rattle.readings.proofs.Ends.{field-length, ends-there}
 use mathlib.Core.Logic.{⊎-elim}
 use Rattle.readings.proofs.Texts.{char-read}
 use Rattle.readings.proofs.Fields.{empty-read}
-use Rattle.readings.specs.LeadingBytes.{Ends, leadingField}
+use Rattle.readings.specs.InsideLeadingBytes.{Ends, leadingField}
 use Rattle.fields.specs.declared.FieldType.the-variants.{Char}
 use denote.Ref.{now}
 use borrow.Author.Tests.{not-false, not-true}

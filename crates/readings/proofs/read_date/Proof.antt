@@ -3,7 +3,7 @@
 use Rattle.readings.proofs.AmountsMissed.{told-not}
 use Rattle.readings.proofs.Missed.{date-id, date-length, date-day}
 use Rattle.readings.proofs.Ends.{field-length}
-use Rattle.readings.specs.LeadingBytes.{leadingField}
+use Rattle.readings.specs.InsideLeadingBytes.{leadingField}
 use Rattle.readings.proofs.Ids.{id-empty, id-number, date-read}
 use mathlib.Core.Bool.{true, false}
 use mathlib.Core.Logic.{⊎-elim}
@@ -11,7 +11,7 @@ use Rattle.digits.specs.declared.Number.the-variants.{Value}
 use Rattle.calendar.specs.declared.Day.the-variants.{NotADate}
 use Rattle.fields.specs.Fields.{isDay}
 use Rattle.calendar.specs.Calendar.{dateDay}
-use Rattle.readings.specs.Readings.{FieldRead}
+use Rattle.readings.specs.InsideReadings.{FieldRead}
 use Rattle.fields.specs.declared.FieldType.the-variants.{RecordId, Date}
 use Rattle.calendar.proofs.Dates.{date-bound}
 use denote.Ref.{now}

@@ -1,7 +1,7 @@
 -- `readings::read_date_time` meets its contract: the field up to the first comma fits.
 -- Assumes nothing.
 use Rattle.readings.proofs.Fields.{field-read}
-use Rattle.readings.specs.Readings.{Says}
+use Rattle.readings.specs.InsideReadings.{Says}
 use Rattle.fields.specs.declared.FieldType.the-variants.{DateTime}
 use Rattle.lists.proofs.First.{first-le}
 use Rattle.lists.specs.First.{isByte}

@@ -3,7 +3,7 @@
 use Rattle.readings.proofs.AmountsMissed.{told-not}
 use Rattle.readings.proofs.Missed.{fixed-id, fixed-length}
 use Rattle.readings.proofs.Ends.{field-length}
-use Rattle.readings.specs.LeadingBytes.{leadingField}
+use Rattle.readings.specs.InsideLeadingBytes.{leadingField}
 use Rattle.readings.proofs.Ids.{id-empty, fixed-read}
 use mathlib.Core.Bool.{Bool, true, false}
 use mathlib.Core.Logic.{⊎-elim}

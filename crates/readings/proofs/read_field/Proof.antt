@@ -1,10 +1,10 @@
 -- `readings::read_field` meets its contract: each arm reads the type that the code stands for.
 -- Assumes nothing.
-use Rattle.tables.specs.Codes.{typeOfCode}
+use Rattle.tables.specs.InsideCodes.{typeOfCode}
 use borrow.Author.Tests.{ne-eqb, leb-true}
 use lib.Dec.{leb}
 use Rattle.digits.proofs.Laws.{both-true}
-use Rattle.readings.specs.Readings.{isNarrow}
+use Rattle.readings.specs.InsideReadings.{isNarrow}
 use Prim.Native.Nat.{_/_, _%_, _-_}
 use borrow.Author.Needs.{needs}
 use Rattle.readings.proofs.read_field.Statement.{statement}

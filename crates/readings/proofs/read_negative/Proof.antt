@@ -1,7 +1,7 @@
 -- `readings::read_negative` meets its contract: the amount stands after the minus, and is small enough to be doubled.
 -- Assumes nothing.
 use Rattle.readings.proofs.Magnitudes.{minus-read}
-use Rattle.readings.specs.AmountReadings.{MagnitudeRead}
+use Rattle.readings.specs.InsideAmountReadings.{MagnitudeRead}
 use Rattle.lists.proofs.Parts.{part-rest}
 use Rattle.lists.proofs.First.{first-le}
 use Rattle.lists.specs.First.{isByte}

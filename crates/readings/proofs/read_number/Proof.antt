@@ -2,12 +2,12 @@
 -- Assumes nothing.
 use Rattle.readings.proofs.AmountsMissed.{told-not}
 use Rattle.readings.proofs.Missed.{number-not, minus-not, plain-not}
-use Rattle.readings.specs.LeadingBytes.{fieldEnd, leadingField}
+use Rattle.readings.specs.InsideLeadingBytes.{fieldEnd, leadingField}
 use Rattle.readings.proofs.Ends.{field-length, end-more, next-ends, next-inside, next-is}
 use lib.Seq.{getD-take}
 use Rattle.readings.proofs.Numbers.{plain-number, minus-number}
 use Rattle.readings.proofs.Fields.{empty-read}
-use Rattle.readings.specs.AmountReadings.{MagnitudeRead}
+use Rattle.readings.specs.InsideAmountReadings.{MagnitudeRead}
 use Rattle.fields.specs.declared.FieldType.the-variants.{Number}
 use denote.Ref.{now}
 use lib.ListN.{length, getD}

@@ -6,7 +6,7 @@ use lib.ListN.{length, getD, drop}
 use Prim.Native.Nat.{ℕ, _+_, _≤_, _<_}
 use mathlib.Core.Bool.{true}
 use mathlib.Core.Path.{_≡_, sym, _∙_, subst}
-use Rattle.readings.specs.LeadingBytes.{fieldEnd, leadingField, Ends, AllRead}
+use Rattle.readings.specs.InsideLeadingBytes.{fieldEnd, leadingField, Ends, AllRead}
 use Rattle.amounts.specs.Amounts.{isUnsigned}
 use Rattle.lists.proofs.Parts.{part-rest}
 use Rattle.readings.proofs.Ends.{end-ends, next-ends, next-inside, next-is}

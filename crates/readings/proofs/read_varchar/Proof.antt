@@ -3,7 +3,7 @@
 use Rattle.readings.proofs.AmountsMissed.{told-not}
 use Rattle.readings.proofs.Missed.{varchar-length, text-ends}
 use Rattle.readings.proofs.Ends.{field-length, ends-there}
-use Rattle.readings.specs.LeadingBytes.{leadingField}
+use Rattle.readings.specs.InsideLeadingBytes.{leadingField}
 use Rattle.readings.proofs.Texts.{varchar-read, long-read}
 use denote.Ref.{now}
 use Prim.Native.Nat.{ℕ}

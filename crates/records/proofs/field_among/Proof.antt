@@ -1,8 +1,8 @@
 -- `field_among` meets its contract: the place of field k is where it stands.
 -- Assumes nothing.
 use Rattle.records.proofs.Laws.{place-among}
-use Rattle.records.specs.Records.{fieldAmong, fieldsAt}
-use Rattle.records.specs.Text.{At}
+use Rattle.records.specs.InsidePlacedFields.{fieldAmong, fieldsAt}
+use Rattle.records.specs.InsidePlacedLines.{At}
 use denote.Ref.{now}
 use borrow.Author.Needs.{needs}
 use Rattle.records.proofs.field_among.Statement.{statement}

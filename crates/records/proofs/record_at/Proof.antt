@@ -6,7 +6,8 @@ use Rattle.records.specs.Records.{field, typeIn}
 use Rattle.records.proofs.Laws.{type-third, fields-few, fields-many}
 use Rattle.records.proofs.Placed.{Going, going-none, going-more, going-end, going-count, placed-at}
 use Rattle.records.proofs.Cut.{part-length, fields-more, fields-last, cut-some}
-use Rattle.records.specs.Text.{part, fieldsOf, Placed}
+use Rattle.records.specs.InsidePlacedLines.{part, Placed}
+use Rattle.records.specs.Text.{fieldsOf}
 use Rattle.lists.proofs.First.{first-le}
 use Rattle.lists.specs.First.{isByte}
 use lib.ListN.{length, set, length-set}

@@ -4,7 +4,7 @@
 use borrow.Author.Needs.{needs}
 use native.Mathlib.Omega.{arith}
 use mathlib.Core.Path.{_≡_, sym}
-use Rattle.lists.specs.Tabulate.{tabulate}
+use Rattle.lists.specs.InsideTabulate.{tabulate}
 use Rattle.refusals.specs.Codes.{codeIn, codeOf}
 use Rattle.refusals.proofs.RejectionCodes.{codeTable, code-above, codes-zero, codes-some}
 use Rattle.refusals.proofs.code_of.Statement.{statement}

@@ -50,10 +50,10 @@ use denote.Exit.{yes}
 use borrow.Author.Count.{below-none, below-more}
 use Rattle.entries.specs.declared.Entry.{Entry}
 use Rattle.entries.specs.Entries.{blank}
-use Rattle.entries.specs.Words.{RoomFor, entryAt, writes, wordsAt, amountsAt}
+use Rattle.entries.specs.InsideWords.{RoomFor, entryAt, writes, wordsAt, amountsAt}
 use Rattle.entries.proofs.Words.{length-writes, written-here, written-elsewhere}
 use Rattle.entries.proofs.Room.{room-fewer, room-same}
-use Rattle.soundness.specs.Room.{readCount}
+use Rattle.soundness.specs.InsideRoom.{readCount}
 use Rattle.runs.proofs.Laws.{read-le, read-cap, taken}
 use Rattle.lists.proofs.Selections.{is-true, is-false}
 use Rattle.runs.proofs.Turn.{tyAt, test}

@@ -52,10 +52,10 @@ use denote.Exit.{yes}
 use borrow.Author.Count.{below-none, below-more}
 use Rattle.entries.specs.declared.Entry.{Entry}
 use Rattle.entries.specs.Entries.{blank}
-use Rattle.entries.specs.Words.{RoomFor, entryAt, entriesOf}
+use Rattle.entries.specs.InsideWords.{RoomFor, entryAt, entriesOf}
 use Rattle.entries.proofs.Room.{room-fewer}
 use Rattle.entries.proofs.Words.{length-entries, entry-of}
-use Rattle.runs.specs.Copies.{placed}
+use Rattle.runs.specs.InsideCopies.{placed}
 use Rattle.runs.proofs.Laws.{placed-is}
 use Rattle.lists.proofs.Selections.{is-true, is-false}
 use Rattle.runs.proofs.Turn.{tyAt, test}

@@ -4,7 +4,7 @@ use mathlib.Core.Path.{_≡_}
 use Prim.Native.Nat.{ℕ, _-_, _≤_}
 use denote.Ref.{now}
 use lib.ListN.{getD}
-use Rattle.sound_ledgers.specs.Pairing.{WithMarks}
+use Rattle.sound_ledgers.specs.InsidePairing.{WithMarks}
 use Rattle.soundness.proofs.Tests.{equal, both, fails}
 use borrow.Author.Count.{below-none, below-more}
 use borrow.Author.Needs.{needs}

@@ -4,9 +4,9 @@ use mathlib.Core.Path.{_≡_, sym, _∙_, ap, subst}
 use mathlib.Core.Bool.{true≢false}
 use denote.Ref.{now}
 use borrow.Author.Tests.{not-true, not-false}
-use Rattle.buckets.specs.Buckets.{firstPlace}
+use Rattle.buckets.specs.InsideBuckets.{firstPlace}
 use Rattle.entries.specs.Entries.{entryOf}
-use Rattle.entries.specs.Words.{entriesOf}
+use Rattle.entries.specs.InsideWords.{entriesOf}
 use Rattle.soundness.specs.Sound.{isNamed, opposite}
 use Rattle.sound_ledgers.proofs.Pairing.{cancels, cancels-named, cancels-opposite, named-place}
 use borrow.Author.Needs.{needs}

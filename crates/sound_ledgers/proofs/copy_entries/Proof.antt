@@ -6,18 +6,18 @@ use denote.Ref.{now}
 use lib.ListN.{length, length-set, set}
 use borrow.Author.Count.{below-none}
 use borrow.Author.Tests.{not-true, not-false}
-use Rattle.lists.specs.Column.{Copied}
+use Rattle.lists.specs.InsideColumn.{Copied}
 use Rattle.lists.proofs.Column.{copied-more}
 use Rattle.apart.proofs.Gathering.{gathering-none}
-use Rattle.apart.specs.Gathered.{Gathering}
+use Rattle.apart.specs.InsideGathered.{Gathering}
 use Rattle.entries.specs.declared.Entry.{Entry}
-use Rattle.entries.specs.Words.{entriesOf}
+use Rattle.entries.specs.InsideWords.{entriesOf}
 use Rattle.soundness.specs.Meaning.{EntryFits}
 use Rattle.soundness.specs.Sound.{entryFits}
 use Rattle.soundness.proofs.Meaning.{entry-means}
 use Rattle.sound_ledgers.proofs.Gathered.{gathered-more}
-use Rattle.sound_ledgers.specs.LivePeriods.{liveAt, firstDay, lastDay}
-use Rattle.sound_ledgers.specs.Keys.{keyOf, Keyed, stateAt}
+use Rattle.sound_ledgers.specs.InsideLivePeriods.{liveAt, firstDay, lastDay}
+use Rattle.sound_ledgers.specs.InsideKeys.{keyOf, Keyed, stateAt}
 use Rattle.sound_ledgers.proofs.Keys.{keyed-none, keyed-more, misfit}
 use borrow.Author.Needs.{needs}
 use native.Mathlib.Omega.{arith}

@@ -5,7 +5,7 @@ use mathlib.Core.Bool.{true}
 use Prim.Native.Nat.{_≤_}
 use denote.Ref.{now}
 use borrow.Author.Tests.{not-true, not-false}
-use Rattle.entries.specs.Words.{RoomFor}
+use Rattle.entries.specs.InsideWords.{RoomFor}
 use Rattle.soundness.specs.Sound.{sizesFit}
 use Rattle.soundness.proofs.Sizes.{sizes-mean, sizes-amiss, room-in-use}
 use Rattle.sound_ledgers.proofs.Laws.{answer-is}

@@ -5,7 +5,7 @@ use Prim.Native.Nat.{ℕ, _≤_, _<_}
 use denote.Ref.{now}
 use borrow.Author.Tests.{not-true, not-false}
 use Rattle.buckets.proofs.Repeats.{all-different}
-use Rattle.entries.specs.Words.{entriesOf}
+use Rattle.entries.specs.InsideWords.{entriesOf}
 use Rattle.entries.proofs.Words.{length-entries}
 use Rattle.sound_ledgers.proofs.Keys.{keys-differ}
 use Rattle.sound_ledgers.proofs.Gathered.{live-apart, live-meeting}

@@ -7,8 +7,8 @@ use Prim.Native.Nat.{ℕ, _+_, _-_, _≤_}
 use denote.Ref.{now}
 use lib.ListN.{length, length-set}
 use Rattle.entries.specs.declared.Entry.{Entry}
-use Rattle.entries.specs.Words.{entriesOf}
-use Rattle.sound_ledgers.specs.Pairing.{Marked}
+use Rattle.entries.specs.InsideWords.{entriesOf}
+use Rattle.sound_ledgers.specs.InsidePairing.{Marked}
 use Rattle.sound_ledgers.proofs.Pairing.{marked-none, marked-more, marked-kept, unpaired-cancel, marked-twice}
 use borrow.Author.Needs.{needs}
 use native.Mathlib.Omega.{arith}

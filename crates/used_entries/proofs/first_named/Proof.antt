@@ -5,7 +5,7 @@ use Prim.Native.Nat.{ℕ}
 use denote.Ref.{now}
 use borrow.Author.Needs.{needs}
 use borrow.Author.Tests.{ne-eqb}
-use Rattle.used_entries.specs.Searches.{namesAs, namedFirst, wants, wantedAt}
+use Rattle.used_entries.specs.InsideSearches.{namesAs, namedFirst, wants, wantedAt}
 use Rattle.used_entries.proofs.Laws.{named-none}
 use Rattle.used_entries.proofs.first_named.Statement.{statement}
 use Rattle.used_entries.proofs.first_named.Tie as tie

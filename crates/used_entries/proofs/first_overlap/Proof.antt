@@ -11,12 +11,12 @@ use borrow.Author.Needs.{needs}
 use lib.IntN.{ℤ}
 use lib.ListN.{length}
 use Rattle.entries.specs.declared.Entry.{Entry}
-use Rattle.entries.specs.Words.{entryAt}
+use Rattle.entries.specs.InsideWords.{entryAt}
 use Rattle.buckets.proofs.Chains.{walk-start, walk-more, walk-end}
-use Rattle.buckets.specs.Chains.{Latest, Walked}
-use Rattle.buckets.specs.Buckets.{bucketOf}
+use Rattle.buckets.specs.InsideChains.{Latest, Walked}
+use Rattle.buckets.specs.InsideBuckets.{bucketOf}
 use Rattle.used_entries.proofs.Sites.{overlap-only, first-entry}
-use Rattle.used_entries.specs.Sited.{siteIn, overlapsEntry}
+use Rattle.used_entries.specs.InsideSited.{siteIn, overlapsEntry}
 use Rattle.used_entries.proofs.first_overlap.Statement.{statement}
 use Rattle.used_entries.proofs.first_overlap.Tie as tie
 

@@ -8,12 +8,12 @@ use native.Mathlib.Omega.{arith}
 use denote.Ref.{now}
 use borrow.Author.Needs.{needs}
 use lib.ListN.{length, getD}
-use Rattle.buckets.specs.Buckets.{bucketOf}
-use Rattle.buckets.specs.Chains.{Latest, Walked}
+use Rattle.buckets.specs.InsideBuckets.{bucketOf}
+use Rattle.buckets.specs.InsideChains.{Latest, Walked}
 use Rattle.buckets.proofs.Chains.{walk-start, walk-more, walk-end}
 use Rattle.entries.proofs.Room.{room-fewer}
-use Rattle.used_entries.specs.Keyed.{keyIn}
-use Rattle.used_entries.specs.Searches.{wantedKey, wantedAt}
+use Rattle.used_entries.specs.InsideKeyed.{keyIn}
+use Rattle.used_entries.specs.InsideSearches.{wantedKey, wantedAt}
 use Rattle.used_entries.proofs.Laws.{wanted-only}
 use Rattle.used_entries.proofs.first_wanted.Statement.{statement}
 use Rattle.used_entries.proofs.first_wanted.Tie as tie

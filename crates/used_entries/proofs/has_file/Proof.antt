@@ -1,7 +1,7 @@
 -- `used_entries::has_file` meets its contract.
 -- Assumes nothing.
 use borrow.Author.Needs.{needs}
-use Rattle.used_entries.specs.Searches.{wants}
+use Rattle.used_entries.specs.InsideSearches.{wants}
 use Rattle.used_entries.proofs.has_file.Statement.{statement}
 use Rattle.used_entries.proofs.has_file.Tie as tie
 

@@ -5,7 +5,7 @@ use Prim.Native.Nat.{ℕ}
 use denote.Ref.{now}
 use borrow.Author.Needs.{needs}
 use lib.Dec.{ltb}
-use Rattle.used_entries.specs.Searches.{wants, wantedAt}
+use Rattle.used_entries.specs.InsideSearches.{wants, wantedAt}
 use Rattle.used_entries.proofs.Laws.{some-any}
 use Rattle.used_entries.proofs.has_wanted.Statement.{statement}
 use Rattle.used_entries.proofs.has_wanted.Tie as tie

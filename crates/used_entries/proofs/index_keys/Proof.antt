@@ -7,11 +7,11 @@ use native.Mathlib.Omega.{arith}
 use denote.Ref.{now}
 use borrow.Author.Needs.{needs}
 use lib.ListN.{length}
-use Rattle.buckets.specs.Chains.{ChainRoom}
+use Rattle.buckets.specs.InsideChains.{ChainRoom}
 use Rattle.buckets.proofs.Chains.{chained-none}
 use Rattle.entries.specs.declared.Entry.{Entry}
-use Rattle.sound_ledgers.specs.Keys.{keyOf}
-use Rattle.used_entries.specs.Keyed.{keyIn, ByKey}
+use Rattle.sound_ledgers.specs.InsideKeys.{keyOf}
+use Rattle.used_entries.specs.InsideKeyed.{keyIn, ByKey}
 use Rattle.used_entries.proofs.index_keys.Statement.{statement}
 use Rattle.used_entries.proofs.index_keys.Tie as tie
 

@@ -8,7 +8,7 @@ use borrow.Author.Needs.{needs}
 use lib.ListN.{length}
 use Rattle.buckets.proofs.Chains.{chained-none}
 use Rattle.entries.specs.declared.Entry.{Entry}
-use Rattle.used_entries.specs.Sited.{siteIn, BySite}
+use Rattle.used_entries.specs.InsideSited.{siteIn, BySite}
 use Rattle.used_entries.proofs.index_sites.Statement.{statement}
 use Rattle.used_entries.proofs.index_sites.Tie as tie
 

@@ -2,7 +2,7 @@
 -- Assumes nothing.
 use borrow.Author.Needs.{needs}
 use Rattle.booking.specs.Booking.{isStored}
-use Rattle.used_entries.specs.Searches.{wants}
+use Rattle.used_entries.specs.InsideSearches.{wants}
 use Rattle.used_entries.proofs.is_stored.Statement.{statement}
 use Rattle.used_entries.proofs.is_stored.Tie as tie
 

@@ -1,7 +1,7 @@
 -- `used_entries::is_wanted` meets its contract, kind of search by kind.
 -- Assumes nothing.
 use borrow.Author.Needs.{needs}
-use Rattle.used_entries.specs.Searches.{wants}
+use Rattle.used_entries.specs.InsideSearches.{wants}
 use Rattle.used_entries.proofs.is_wanted.Statement.{statement}
 use Rattle.used_entries.proofs.is_wanted.Tie as tie
 

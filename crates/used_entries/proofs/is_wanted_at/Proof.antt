@@ -5,8 +5,8 @@ use mathlib.Core.Path.{_≡_, sym, ap, _∙_}
 use denote.Ref.{now}
 use borrow.Author.Needs.{needs}
 use borrow.Author.Tests.{not-true, not-false}
-use Rattle.entries.specs.Words.{entryAt}
-use Rattle.used_entries.specs.Searches.{wants, wantedAt}
+use Rattle.entries.specs.InsideWords.{entryAt}
+use Rattle.used_entries.specs.InsideSearches.{wants, wantedAt}
 use Rattle.used_entries.proofs.is_wanted_at.Statement.{statement}
 use Rattle.used_entries.proofs.is_wanted_at.Tie as tie
 

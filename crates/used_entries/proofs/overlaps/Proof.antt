@@ -3,7 +3,7 @@
 use mathlib.Core.Path.{sym, _∙_}
 use borrow.Author.Tests.{eq-eqb, ne-eqb, not-true, not-false}
 use borrow.Author.Needs.{needs}
-use Rattle.used_entries.specs.Sited.{overlapsEntry}
+use Rattle.used_entries.specs.InsideSited.{overlapsEntry}
 use Rattle.used_entries.proofs.overlaps.Statement.{statement}
 use Rattle.used_entries.proofs.overlaps.Tie as tie
 

@@ -1,7 +1,7 @@
 -- `used_entries::wanted_key` meets its contract, kind of search by kind.
 -- Assumes nothing.
 use borrow.Author.Needs.{needs}
-use Rattle.used_entries.specs.Searches.{wantedKey}
+use Rattle.used_entries.specs.InsideSearches.{wantedKey}
 use Rattle.used_entries.proofs.wanted_key.Statement.{statement}
 use Rattle.used_entries.proofs.wanted_key.Tie as tie
 

@@ -8,7 +8,7 @@ use Prim.Native.Nat.{_≤_}
 use denote.Ref.{now}
 use lib.Seq.{take-length}
 use lib.ListN.{length, take, length-set}
-use Rattle.writing.specs.Writing.{writtenAt}
+use Rattle.writing.specs.InsideWriting.{writtenAt}
 use Rattle.writing.proofs.Loops.{bytes-back, bytes-end}
 use Rattle.writing.proofs.write_bytes.Statement.{statement}
 use Rattle.writing.proofs.write_bytes.Tie as tie
