@@ -1,8 +1,9 @@
 #!/usr/bin/env python3
 """Writes docs/READING.md: the definitions that must be believed, as a list of files in reading order.
 
-Believed is what the contracts of the exported functions cite, and what the records ROOTS cite, directly or through other definitions. Every other file under
-specs/ holds statements between functions: who believes the prover need not read it. No file under specs/ may cite one under proofs/.
+Believed is what the contracts of the exported functions cite, and what the files ROOTS cite, directly or through other definitions. Every other file under specs/
+holds statements between functions and is named Inside..: who believes the prover need not read it. No believed file may cite an inside file, and no file under
+specs/ one under proofs/.
 
 `tools/reading.py` writes the list, `tools/reading.py --check` says whether it stands so.
 """
@@ -26,18 +27,23 @@ ROOTS = [
     ("booking", "Calls"),
     ("intake", "Calls"),
 ]
+DESK = [("desk_answer", "Desk"), ("desk_answer", "Line")]
 
 HEAD = """# What must be believed
 
 For the auditor. The prover checks that every function meets its contract. What it can't check is that a contract says what document 01 says: that is read, in the
 files below, each definition with its sentence. They are all that the contracts of the exported functions, the guarantee (`Guarantee`), the meaning of an accepted
-file (`Passing`, `Accepted`), of an acceptable booking (`Acceptable`) and of a sound ledger (`Sound`) cite, directly or through others. The other {inside} files under
-specs/ hold statements between functions, which the prover ties together: they need not be read. tools/reading.py makes this list, and the gate checks it.
+file (`Passing`, `Accepted`), of an acceptable booking (`Acceptable`) and of a sound ledger (`Sound`) cite, directly or through others; then what
+the desk program prints. The other {inside} files under specs/ are named Inside..: they hold statements between functions, which the prover ties together, and need
+not be read. No believed file cites one. tools/reading.py makes this list, and the gate checks it.
 
-Read from the top: each file rests on those above it. A line counts where it holds a definition or its sentence; imports and empty lines don't.
+Read from the top: each file rests on those above it. The first number counts the lines of definitions, the second those of the comments, which are their
+sentences; imports and empty lines don't count.
+"""
 
-| File | Lines | What it says |
-|---|---|---|
+TABLE = """
+| File | Lines | Comments | What it says |
+|---|---|---|---|
 """
 
 
@@ -66,11 +72,9 @@ def definitions():
     return files
 
 
-def believed(files):
-    """The files that the roots cite, directly or through others."""
-    waiting = list(ROOTS)
-    for crate in EXPORTED:
-        waiting += cited(read(os.path.join(ROOT, "crates", crate, "src", "lib.rt")))
+def closure(roots, files):
+    """The files that some files cite, directly or through others, and these files."""
+    waiting = list(roots)
     found = set()
     while waiting:
         key = waiting.pop()
@@ -78,6 +82,15 @@ def believed(files):
             found.add(key)
             waiting += cited(read(files[key]))
     return found
+
+
+def believed(files):
+    """What a host's calls and the records rest on; and what the desk program adds."""
+    roots = list(ROOTS)
+    for crate in EXPORTED:
+        roots += cited(read(os.path.join(ROOT, "crates", crate, "src", "lib.rt")))
+    host = closure(roots, files)
+    return host, closure(DESK, files) - host
 
 
 def in_reading_order(found, files):
@@ -97,8 +110,12 @@ def in_reading_order(found, files):
     return order
 
 
-def line_count(text):
-    return sum(1 for line in text.split("\n") if line.strip() and not line.startswith("use ") and line != "-- Assumes nothing.")
+def line_counts(text):
+    """How many lines hold definitions, and how many comments."""
+    lines = [line.strip() for line in text.split("\n")]
+    lines = [line for line in lines if line and not line.startswith("use ") and line != "-- Assumes nothing."]
+    comments = sum(1 for line in lines if line.startswith("--"))
+    return len(lines) - comments, comments
 
 
 def first_sentence(text):
@@ -106,28 +123,48 @@ def first_sentence(text):
     return line.split(". ")[0].rstrip(".").replace("|", "\\|")
 
 
-def document():
-    files = definitions()
-    found = believed(files)
-    text = HEAD.format(inside=len(files) - len(found))
-    total = 0
+def table(found, files):
+    text = TABLE
+    totals = [0, 0]
     for crate, name in in_reading_order(found, files):
         body = read(files[crate, name])
-        count = line_count(body)
-        total += count
-        text += f"| crates/{crate}/specs/{name}.antt | {count} | {first_sentence(body)} |\n"
-    return text + f"\n{len(found)} files, {total} lines.\n"
+        lines, comments = line_counts(body)
+        totals = [totals[0] + lines, totals[1] + comments]
+        text += f"| crates/{crate}/specs/{name}.antt | {lines} | {comments} | {first_sentence(body)} |\n"
+    return text + f"\n{len(found)} files, {totals[0]} lines of definitions, {totals[1]} of comments.\n"
+
+
+def document():
+    files = definitions()
+    host, desk = believed(files)
+    text = HEAD.format(inside=len(files) - len(host) - len(desk)) + table(host, files)
+    return text + "\nThe desk program:\n" + table(desk, files)
+
+
+def misnamed():
+    """Files whose name does not say whether they are believed, and files that cite what they may not."""
+    files = definitions()
+    host, desk = believed(files)
+    found = host | desk
+    for key, path in files.items():
+        inside = key[1].startswith("Inside")
+        if inside == (key in found):
+            yield f"{path}: {'believed, and named Inside' if inside else 'not believed, and not named Inside'}"
+        if re.search(r"use Rattle·[a-z_]+(?:·proofs)?\.proofs\.", read(path)):
+            yield f"{path}: cites a proof"
+        if not inside and any(name.startswith("Inside") for _, name in cited(read(path))):
+            yield f"{path}: cites an inside file"
 
 
 def main():
-    for (crate, name), path in definitions().items():
-        if re.search(r"use Rattle·[a-z_]+(?:·proofs)?\.proofs\.", read(path)):
-            sys.exit(f"crates/{crate}/specs/{name}.antt cites a proof")
+    wrong = list(misnamed())
+    if wrong:
+        sys.exit("\n".join(wrong))
     text = document()
     if "--check" in sys.argv:
         if not os.path.exists(LIST) or read(LIST) != text:
             sys.exit("docs/READING.md is not what tools/reading.py writes")
-        print("docs/READING.md:", text.rstrip().split("\n")[-1])
+        print("docs/READING.md:", " ".join(re.findall(r"(?m)^\d+ files.*", text)))
     else:
         with open(LIST, "w", encoding="utf-8") as f:
             f.write(text)

@@ -51,7 +51,7 @@ fn write_cancel(
     ensures { λ r. ⌜ r ≡ cond (isCancel e) (used + 1) used ⌝ }
     ensures { λ _. ⌜ (let run = entriesOf (now (words .entry)) (now (amounts .entry)) places in entriesOf (now (words .exit)) (now (amounts .exit)) places ≡ cond (isCancel e) (withCancel run used place e) run) ⌝ }
 {
-    if e.state != 4 {
+    if e.state != entries::CANCEL {
         return used;
     }
     cancel_at(words, amounts, places, place);
@@ -107,20 +107,20 @@ fn state_of(
     requires { ⌜ RoomFor used (now words) (now amounts) × BySite (now words) (now amounts) used (now heads) (now links) ⌝ }
     ensures { λ r. ⌜ r ≡ stateAfter (entriesOf (now (words .entry)) (now (amounts .entry)) used) e ⌝ }
 {
-    if e.kind != 2 {
-        return 1;
+    if e.kind != entries::PERIOD {
+        return entries::LIVE;
     }
     if used_entries::first_overlap(words, amounts, used, heads, links, e) < used {
-        return 2;
+        return entries::HELD;
     }
-    1
+    entries::LIVE
 }
 
 // 1 for state 2, held.
 fn count_held(state: u64) -> usize
     ensures { λ r. ⌜ r ≡ cond (eqb state 2) 1 0 ⌝ }
 {
-    if state == 2 {
+    if state == entries::HELD {
         return 1;
     }
     0
@@ -144,7 +144,7 @@ fn write_original(
     ensures { λ r. ⌜ (let run = entriesOf (now (words .entry)) (now (amounts .entry)) places in r .held ≡ cond (isCancel e) (written .held) (written .held + cond (eqb (stateAfter (take (written .used) run) e) 2) 1 0)) ⌝ }
     ensures { λ r. ⌜ BySite (now (words .exit)) (now (amounts .exit)) (r .used) (now (heads .exit)) (now (links .exit)) ⌝ }
 {
-    if e.state == 4 {
+    if e.state == entries::CANCEL {
         return written;
     }
     let used = written.used;

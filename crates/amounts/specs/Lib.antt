@@ -1,3 +1,3 @@
 pub mod Amounts
 pub mod InsideMagnitudes
-pub mod Sums
+pub mod InsideSums

@@ -1,5 +1,5 @@
 -- What the columns that the tests read say of the lines of a file.
---     type-at, id-at, date-held, held-date, cancel-at    the number of a column at a place
+--     type-at, id-at, date-kept, kept-date, cancel-at    the number of a column at a place
 --     same-ids, same-cancels                equal numbers are equal IDs, and equal Indicators
 --     under-is, type-under-is               the record that a record hangs under, by its place in the column of parents
 --     picked-is                             a column of the records of some types
@@ -18,7 +18,7 @@ use Rattle.digits.specs.declared.Number.the-variants.{Value, Other}
 use Rattle.calendar.specs.declared.Day.{Day}
 use Rattle.calendar.specs.declared.Day.the-variants.{At, NotADate}
 use Rattle.tables.specs.Types.{parentType}
-use Rattle.columns.specs.Columns.{heldNumber, heldDay, held, numberIn, recordType, cancel}
+use Rattle.columns.specs.Columns.{numberInColumn, dayInColumn, inColumn, numberIn, recordType, cancel}
 use Rattle.columns.proofs.Laws.{map-at}
 use Rattle.tables.specs.Groups.{at, parentPlace, parentPlaces, pickedAt, picked}
 use Rattle.tables.proofs.RecordTypes.{parent-at, parent-before, parent-type-there, parent-is, picked-length, picked-at}
@@ -46,28 +46,28 @@ module _ (lines : List (List ℕ)) (i : ℕ) (h : i < length lines) where
   type-at = number-at recordType
 
   -- a column of IDs
-  pub id-at : (column : ℕ) → IsId column → at (numbers column lines) i ≡ heldNumber (idAt column lines i)
-  unfolding numberIn held
+  pub id-at : (column : ℕ) → IsId column → at (numbers column lines) i ≡ numberInColumn (idAt column lines i)
+  unfolding numberIn inColumn
   id-at column is = number-at column ∙ rw (is .0, is .1)
 
-  -- one of days: a day is held as itself and one
-  day-at : (column : ℕ) → IsDate column → at (numbers column lines) i ≡ heldDay (dateAt column lines i)
-  unfolding numberIn held
+  -- one of days: a day stands as itself and one
+  day-at : (column : ℕ) → IsDate column → at (numbers column lines) i ≡ dayInColumn (dateAt column lines i)
+  unfolding numberIn inColumn
   day-at column is = number-at column ∙ rw (is .0, is .1, is .2)
 
-  pub date-held : (column : ℕ) → IsDate column → (day : ℕ) → dateAt column lines i ≡ At day → at (numbers column lines) i ≡ day + 1
-  date-held column is day e = day-at column is ∙ ap heldDay e
+  pub date-kept : (column : ℕ) → IsDate column → (day : ℕ) → dateAt column lines i ≡ At day → at (numbers column lines) i ≡ day + 1
+  date-kept column is day e = day-at column is ∙ ap dayInColumn e
 
-  pub held-date : (column : ℕ) → IsDate column → (at (numbers column lines) i ≡ 0 → ⊥) → (day : ℕ) × (dateAt column lines i ≡ At day) × (at (numbers column lines) i ≡ day + 1)
-  held-date column is = go (dateAt column lines i) (day-at column is)
+  pub kept-date : (column : ℕ) → IsDate column → (at (numbers column lines) i ≡ 0 → ⊥) → (day : ℕ) × (dateAt column lines i ≡ At day) × (at (numbers column lines) i ≡ day + 1)
+  kept-date column is = go (dateAt column lines i) (day-at column is)
     where
-      go : (x : Day) → at (numbers column lines) i ≡ heldDay x → (at (numbers column lines) i ≡ 0 → ⊥) → (day : ℕ) × (x ≡ At day) × (at (numbers column lines) i ≡ day + 1)
+      go : (x : Day) → at (numbers column lines) i ≡ dayInColumn x → (at (numbers column lines) i ≡ 0 → ⊥) → (day : ℕ) × (x ≡ At day) × (at (numbers column lines) i ≡ day + 1)
       go (At day) e filled = (day, refl, e)
       go NotADate e filled = absurd (filled e)
 
   -- and the Cancel Indicator
   pub cancel-at : at (numbers cancel lines) i ≡ marked (isCancelAt lines i)
-  unfolding numberIn held
+  unfolding numberIn inColumn
   cancel-at = number-at cancel
 
 pub numbers-length : (column : ℕ) (lines : List (List ℕ)) → length (numbers column lines) ≡ length lines
@@ -77,11 +77,11 @@ pub types-length : (lines : List (List ℕ)) → length (types lines) ≡ length
 types-length lines = numbers-length recordType lines
 
 -- ---- equal numbers in columns are equal IDs and equal Indicators
-same-held : (x y : Number) → heldNumber x ≡ heldNumber y → x ≡ y
-same-held (Value m) (Value n) e = ap Value (omega (arith, e))
-same-held (Value m) Other e = absurd (omega (arith, e))
-same-held Other (Value n) e = absurd (omega (arith, e))
-same-held Other Other e = refl
+same-kept : (x y : Number) → numberInColumn x ≡ numberInColumn y → x ≡ y
+same-kept (Value m) (Value n) e = ap Value (omega (arith, e))
+same-kept (Value m) Other e = absurd (omega (arith, e))
+same-kept Other (Value n) e = absurd (omega (arith, e))
+same-kept Other Other e = refl
 
 pub same-marked : (a b : Bool) → marked a ≡ marked b → a ≡ b
 same-marked true true e = refl
@@ -97,7 +97,7 @@ module _ {A : Type 0} (f : A → ℕ) (apart : (x y : A) → f x ≡ f y → x �
 module _ (lines : List (List ℕ)) (i j : ℕ) (h : i < length lines) (k : j < length lines) where
   -- of the columns of IDs
   pub same-ids : (c d : ℕ) → IsId c → IsId d → (at (numbers c lines) i ≡ at (numbers d lines) j) ↔ (idAt c lines i ≡ idAt d lines j)
-  same-ids c d p q = same-said heldNumber same-held _ _ (idAt c lines i) (idAt d lines j) (id-at lines i h c p) (id-at lines j k d q)
+  same-ids c d p q = same-said numberInColumn same-kept _ _ (idAt c lines i) (idAt d lines j) (id-at lines i h c p) (id-at lines j k d q)
 
   pub same-cancels : (at (numbers cancel lines) i ≡ at (numbers cancel lines) j) ↔ (isCancelAt lines i ≡ isCancelAt lines j)
   same-cancels = same-said marked same-marked _ _ (isCancelAt lines i) (isCancelAt lines j) (cancel-at lines i h) (cancel-at lines j k)

@@ -17,7 +17,7 @@ use Rattle.calendar.specs.declared.Day.the-variants.{At}
 use Rattle.records.specs.Text.{linesOf}
 use Rattle.tables.specs.Types.{SH, TH, DU, CH, OC, FT}
 use Rattle.columns.specs.Columns.{numberIn, chargeIn, usageIn, recordId, parentId, site, startDay, endDay, cancel}
-use Rattle.tables.specs.Groups.{at, parentPlaces, picked, places, ones}
+use Rattle.tables.specs.Groups.{at, parentPlaces, picked, allPlaces, ones}
 use Rattle.tables.proofs.RecordTypes.{parents-length}
 use Rattle.format.specs.Format.{lineAt, firstUnformatted, firstUnfit, firstMisplaced, firstUnfilled, firstMiscoded}
 use Rattle.lists.proofs.Reflected.{denied}
@@ -34,7 +34,7 @@ use Rattle.refusals.specs.declared.Outcome.{Outcome}
 use Rattle.refusals.specs.Check.{numbers, types, charges, usages, sitesOf, parentsOf, onesOf, formatRefusals, orderRefusals, identityRefusals, headerRefusals, periodRefusals, siteRefusals, periodTotalRefusals, trailerRefusals, childRefusals, totalRefusals, columnRefusals, testRefusals, settingsFit, isTooLarge, checkRefusals, checkOf}
 use Rattle.refusals.specs.Refusals.{passed, firstRefusal}
 use Rattle.bill_files.specs.Passing.{idAt, dateAt, isCancelAt, Under, OfTypeUnder, Chosen, Passing}
-use Rattle.bill_files.proofs.Lines.{type-at, date-held, held-date, cancel-at, numbers-length, types-length, same-marked, same-ids, same-cancels, under-is, type-under-is, picked-size}
+use Rattle.bill_files.proofs.Lines.{type-at, date-kept, kept-date, cancel-at, numbers-length, types-length, same-marked, same-ids, same-cancels, under-is, type-under-is, picked-size}
 use Rattle.refusals.proofs.Outcomes.{check-numbered}
 use Rattle.refusals.proofs.Refusals.{NoneOf, none-passes, passes-none, record-none, none-record, appliesAt, applies-at}
 use Rattle.bill_files.proofs.Sums.{site-totals, own-totals, file-totals}
@@ -43,12 +43,12 @@ abbrev periodsOf : List (List ℕ) → PeriodColumns
 periodsOf lines = periodColumns (types lines) (numbers site lines) (numbers startDay lines) (numbers endDay lines) (numbers cancel lines)
 
 -- ---- tests 10, 17 and 38: where the place of the record that i hangs under says H, and equal numbers say S
-module _ (lines : List (List ℕ)) (places own theirs : List ℕ) (size : length places ≡ length lines) (H S : ℕ → ℕ → Type 0)
-    (hangs : (i j : ℕ) → i < length lines → (at places i ≡ suc j) ↔ H i j) (earlier : (i j : ℕ) → H i j → j < i)
+module _ (lines : List (List ℕ)) (allPlaces own theirs : List ℕ) (size : length allPlaces ≡ length lines) (H S : ℕ → ℕ → Type 0)
+    (hangs : (i j : ℕ) → i < length lines → (at allPlaces i ≡ suc j) ↔ H i j) (earlier : (i j : ℕ) → H i j → j < i)
     (same : (i j : ℕ) → i < length lines → j < length lines → (at own i ≡ at theirs j) ↔ S i j) where
-  alike-is : (firstUnlike places own theirs ≡ length places) ↔ ((i j : ℕ) → i < length lines → H i j → S i j)
+  alike-is : (firstUnlike allPlaces own theirs ≡ length allPlaces) ↔ ((i j : ℕ) → i < length lines → H i j → S i j)
   alike-is =
-      let law = alike places own theirs in (
+      let law = alike allPlaces own theirs in (
         λ e i j h u. same i j h (omega (arith, earlier i j u)) .0 (law .0 e i j (omega (arith, size)) (hangs i j h .1 u)),
         λ all. law .1 (λ i j h q. let l : i < length lines = omega (arith, size) in let u = hangs i j l .0 q in same i j l (omega (arith, earlier i j u)) .1 (all i j l u)),
       )
@@ -90,13 +90,13 @@ module _ (lines : List (List ℕ)) where
       let law = dates-in-order (numbers startDay lines) (numbers endDay lines) in
       let size = numbers-length startDay lines in (
         λ e i start end h p q.
-            let s = date-held lines i h startDay (refl, refl, refl) start p in
-            let t = date-held lines i h endDay (refl, refl, refl) end q in
+            let s = date-kept lines i h startDay (refl, refl, refl) start p in
+            let t = date-kept lines i h endDay (refl, refl, refl) end q in
             omega (arith, law .0 e i (omega (arith, size)) (λ z. omega (arith, s)) (λ z. omega (arith, t)), s, t),
         λ all. law .1 (λ i h some-start some-end.
             let l : i < length lines = omega (arith, size) in
-            let start = held-date lines i l startDay (refl, refl, refl) some-start in
-            let end = held-date lines i l endDay (refl, refl, refl) some-end in
+            let start = kept-date lines i l startDay (refl, refl, refl) some-start in
+            let end = kept-date lines i l endDay (refl, refl, refl) some-end in
             omega (arith, all i (start .0) (end .0) l (start .1) (end .1), start .2, end .2)),
       )
 
@@ -116,23 +116,23 @@ module _ (lines : List (List ℕ)) where
   )
     where
       from : at (numbers startDay lines) h ≡ c .from + 1
-      from = date-held lines h k startDay (refl, refl, refl) (c .from) (c .billing-start)
+      from = date-kept lines h k startDay (refl, refl, refl) (c .from) (c .billing-start)
 
       to : at (numbers endDay lines) h ≡ c .to + 1
-      to = date-held lines h k endDay (refl, refl, refl) (c .to) (c .billing-end)
+      to = date-kept lines h k endDay (refl, refl, refl) (c .to) (c .billing-end)
 
       start : at (numbers startDay lines) i ≡ c .start + 1
-      start = date-held lines i l startDay (refl, refl, refl) (c .start) (c .period-start)
+      start = date-kept lines i l startDay (refl, refl, refl) (c .start) (c .period-start)
 
       end : at (numbers endDay lines) i ≡ c .end + 1
-      end = date-held lines i l endDay (refl, refl, refl) (c .end) (c .period-end)
+      end = date-kept lines i l endDay (refl, refl, refl) (c .end) (c .period-end)
 
   columns-chosen : (h i d : ℕ) → h < length lines → i < length lines → Original (periodsOf lines) i → Chooses (periodsOf lines) h i → HasDay (periodsOf lines) i d → Chosen lines h i (d - 1)
   columns-chosen h i d k l o c has =
-      let from = held-date lines h k startDay (refl, refl, refl) (c .start-filled) in
-      let to = held-date lines h k endDay (refl, refl, refl) (c .end-filled) in
-      let start = held-date lines i l startDay (refl, refl, refl) (λ z. omega (arith, z, c .from, from .2)) in
-      let end = held-date lines i l endDay (refl, refl, refl) (λ z. omega (arith, z, has .0, has .1, start .2)) in
+      let from = kept-date lines h k startDay (refl, refl, refl) (c .start-filled) in
+      let to = kept-date lines h k endDay (refl, refl, refl) (c .end-filled) in
+      let start = kept-date lines i l startDay (refl, refl, refl) (λ z. omega (arith, z, c .from, from .2)) in
+      let end = kept-date lines i l endDay (refl, refl, refl) (λ z. omega (arith, z, has .0, has .1, start .2)) in
       record {
         header = sym (type-at lines h k) ∙ c .site-header;
         period = sym (type-at lines i l) ∙ o .period-header;
@@ -219,8 +219,8 @@ module _ (retailer : ℕ) (distributors : List ℕ) (lines : List (List ℕ)) wh
       let test18 = record-is n (length (types lines)) (firstOverlapping (periodsOf lines)) (first-at-most _ _) sized (passes-18 lines) in
       let test29 = total-is (sitesOf DU DU lines) SH SH (numbers site lines) (usages lines) (site-totals lines DU DU usageIn) in
       let test30 = total-is (sitesOf CH OC lines) SH SH (numbers site lines) (charges lines) (site-totals lines CH OC chargeIn) in
-      let test31 = total-is (parentsOf DU DU lines) TH TH (places n) (usages lines) (own-totals lines DU DU usageIn) in
-      let test32 = total-is (parentsOf CH CH lines) TH TH (places n) (charges lines) (own-totals lines CH CH chargeIn) in
+      let test31 = total-is (parentsOf DU DU lines) TH TH (allPlaces n) (usages lines) (own-totals lines DU DU usageIn) in
+      let test32 = total-is (parentsOf CH CH lines) TH TH (allPlaces n) (charges lines) (own-totals lines CH CH chargeIn) in
       let test33 = refused-is _ (counts-is (lineAt lines (n - 1)) n) in
       let test34 = total-is (onesOf CH OC lines) FT FT (ones n) (charges lines) (file-totals lines CH OC chargeIn) in
       let test38 =

@@ -18,13 +18,13 @@ use lib.IntN.{ℤ, pos}
 use Rattle.digits.specs.declared.Number.{Number}
 use Rattle.digits.specs.declared.Number.the-variants.{Value, Other}
 use Rattle.tables.specs.Types.{SH, TH, FT}
-use Rattle.columns.specs.Columns.{heldNumber, site}
-use Rattle.columns.proofs.Laws.{map-at, number-held}
-use Rattle.tables.specs.Groups.{at, parentPlace, parentPlaces, picked, places, ones}
+use Rattle.columns.specs.Columns.{numberInColumn, site}
+use Rattle.columns.proofs.Laws.{map-at, number-kept}
+use Rattle.tables.specs.Groups.{at, parentPlace, parentPlaces, picked, allPlaces, ones}
 use Rattle.tables.proofs.RecordTypes.{parent-at, place-at, one-at}
 use Rattle.format.specs.Format.{lineAt}
 use Rattle.lists.proofs.Reflected.{both-of}
-use Rattle.headers.specs.Headers.{isNumber}
+use Rattle.headers.specs.Headers.{isValue}
 use Rattle.totals.specs.Totals.{amountAt, groupSum}
 use Rattle.totals.proofs.Meaning.{TotalsRight}
 use Rattle.refusals.specs.Check.{numbers, types, sitesOf, parentsOf, placesOf, onesOf}
@@ -105,10 +105,10 @@ next-same m n = go (eqb m n) refl
 none-next : (g : ℕ) → eqb 0 (suc g) ≡ false
 none-next g = ne-eqb 0 (suc g) (λ e. omega arith)
 
-held-counts : (x : Number) (g : ℕ) (b : Bool) → eqb (cond b (heldNumber x) 0) (suc g) ≡ (b && isNumber g x)
-held-counts (Value m) g true = next-same m g
-held-counts Other g true = none-next g
-held-counts x g false = none-next g
+kept-counts : (x : Number) (g : ℕ) (b : Bool) → eqb (cond b (numberInColumn x) 0) (suc g) ≡ (b && isValue g x)
+kept-counts (Value m) g true = next-same m g
+kept-counts Other g true = none-next g
+kept-counts x g false = none-next g
 
 place-counts : (place g : ℕ) (b : Bool) → eqb (cond b place 0) (suc g) ≡ (b && eqb place (suc g))
 place-counts place g true = refl
@@ -123,15 +123,15 @@ module _ (lines : List (List ℕ)) (low high : ℕ) (amount : List ℕ → ℤ) 
       ↔ ((i s : ℕ) → i < length lines → typeAt lines i ≡ SH → idAt site lines i ≡ Value s
       → amount (lineAt lines i) ≡ sumOf (isOfSite low high lines s) (λ (k : ℕ). amount (lineAt lines k)) (length lines))
   site-totals =
-      totals-are lines low high SH (numbers site lines) (numbers site lines) amount (λ i s. idAt site lines i ≡ Value s) (λ b s k. b && isNumber s (idAt site lines k))
-      (λ i s h. (λ e. number-held (idAt site lines i) s (sym (id-at lines i h site (refl, refl)) ∙ e), λ e. id-at lines i h site (refl, refl) ∙ ap heldNumber e ∙ add-one s))
-      (λ i s o k h b. rw (id-at lines k h site (refl, refl)) (held-counts (idAt site lines k) s b))
+      totals-are lines low high SH (numbers site lines) (numbers site lines) amount (λ i s. idAt site lines i ≡ Value s) (λ b s k. b && isValue s (idAt site lines k))
+      (λ i s h. (λ e. number-kept (idAt site lines i) s (sym (id-at lines i h site (refl, refl)) ∙ e), λ e. id-at lines i h site (refl, refl) ∙ ap numberInColumn e ∙ add-one s))
+      (λ i s o k h b. rw (id-at lines k h site (refl, refl)) (kept-counts (idAt site lines k) s b))
 
   pub own-totals : TotalsRight (parentsOf low high lines) (placesOf TH TH lines) (map amount lines)
       ↔ ((i : ℕ) → i < length lines → typeAt lines i ≡ TH → amount (lineAt lines i) ≡ sumOf (isOwn low high lines i) (λ (k : ℕ). amount (lineAt lines k)) (length lines))
   own-totals =
       Iff·trans
-      (totals-are lines low high TH (parentPlaces (types lines)) (places (length lines)) amount (λ i g. i ≡ g) (λ b g k. b && eqb (parentPlace (types lines) k) (suc g))
+      (totals-are lines low high TH (parentPlaces (types lines)) (allPlaces (length lines)) amount (λ i g. i ≡ g) (λ b g k. b && eqb (parentPlace (types lines) k) (suc g))
       (λ i g h. (λ e. omega (arith, e, place-at (length lines) i h), λ e. omega (arith, e, place-at (length lines) i h)))
       (λ i g o k h b. rw (parent-at (types lines) k (omega (arith, types-length lines))) (place-counts (parentPlace (types lines) k) g b)))
       (one-group (length lines) (λ i. i) (λ i. typeAt lines i ≡ TH) (λ i g. amount (lineAt lines i) ≡ sumOf (isOwn low high lines g) (λ (k : ℕ). amount (lineAt lines k)) (length lines)))

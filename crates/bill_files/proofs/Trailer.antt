@@ -17,7 +17,7 @@ use Rattle.tables.specs.Types.{FH, TH, CH, OC, FT, mayFollow, parentType}
 use Rattle.records.specs.Records.{typeIn}
 use Rattle.columns.specs.Columns.{chargeIn}
 use Rattle.columns.proofs.Laws.{map-at}
-use Rattle.tables.specs.Groups.{at, parentPlace, places, ones}
+use Rattle.tables.specs.Groups.{at, parentPlace, allPlaces, ones}
 use Rattle.tables.proofs.RecordTypes.{parent-at, picked-at, place-at, one-at}
 use Rattle.format.specs.Format.{lineAt}
 use Rattle.identity.proofs.Meaning.{every-parent}
@@ -213,11 +213,11 @@ module _ {retailer : ℕ} {distributors : List ℕ} {lines : List (List ℕ)} (p
       owner : typeAt lines k ≡ TH → at owners k ≡ suc k
       owner type =
           let here : at (types lines) k ≡ TH = type-at lines k h ∙ type in
-          picked-at (types lines) (places (length lines)) TH TH k (omega (arith, types-length lines))
+          picked-at (types lines) (allPlaces (length lines)) TH TH k (omega (arith, types-length lines))
           ∙ rw (here, place-at (length lines) k h) (omega arith)
 
       size : length owners ≡ length lines
-      size = picked-size lines TH TH (places (length lines))
+      size = picked-size lines TH TH (allPlaces (length lines))
 
       go : (b : Bool) → isPeriod (lineAt lines k) ≡ b → groupSum members (charges lines) (suc k) (length lines) ≡ cond b (amountAt (charges lines) k) (pos 0)
       go true e =

@@ -23,7 +23,7 @@ use Rattle.columns.specs.Columns.{fieldIn, chargeIn, usageIn, recordId, parentI
 use Rattle.tables.specs.Groups.{parentPlace}
 use Rattle.format.specs.Format.{lineAt, unitOf}
 use Rattle.format.specs.Meaning.{Formatted, Fitting, Ordered, Filled, Coded}
-use Rattle.headers.specs.Headers.{isNumber}
+use Rattle.headers.specs.Headers.{isValue}
 use Rattle.headers.specs.Meaning.{Listed}
 use Rattle.refusals.specs.Check.{types}
 
@@ -87,7 +87,7 @@ isOfType low high lines k = leb low (typeAt lines k) && leb (typeAt lines k) hig
 
 -- and the Site ID s
 abbrev pub isOfSite : ℕ → ℕ → List (List ℕ) → ℕ → ℕ → Bool
-isOfSite low high lines s k = isOfType low high lines k && isNumber s (idAt site lines k)
+isOfSite low high lines s k = isOfType low high lines k && isValue s (idAt site lines k)
 
 -- and hangs under the record at i; `parentPlace` is the place and one, and 0 where there is none (`under-is` in proofs/Passing)
 abbrev pub isOwn : ℕ → ℕ → List (List ℕ) → ℕ → ℕ → Bool

@@ -12,7 +12,8 @@ use native.Mathlib.Omega.{arith}
 use borrow.Author.Tests.{ne-eqb}
 use lib.Dec.{T, eqb, eqb→eq}
 use lib.ListN.{length, getD}
-use Rattle.lists.specs.Selections.{filter, any, all, distinct}
+use Rattle.lists.specs.Selections.{filter, any}
+use Rattle.lists.specs.InsideSelections.{all, distinct}
 use Rattle.lists.proofs.Selections.{from-true, not-false, and-both, and-right, cases, neither}
 use Rattle.records.specs.Text.{linesOf}
 use Rattle.bill_files.specs.Accepted.{Bill, BillFile, billFile, billsIn, idIn}

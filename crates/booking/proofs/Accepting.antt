@@ -11,7 +11,7 @@ use native.Mathlib.Omega.{arith}
 use borrow.Author.Tests.{eqb-true, eq-eqb, ltb-false, le-ltb}
 use lib.Dec.{T, eqb, ltb}
 use lib.ListN.{length}
-use Rattle.lists.specs.Selections.{all}
+use Rattle.lists.specs.InsideSelections.{all}
 use Rattle.lists.proofs.Selections.{not-false}
 use Rattle.records.specs.Text.{linesOf}
 use Rattle.refusals.specs.declared.Outcome.{Outcome}

@@ -11,7 +11,8 @@ use Prim.Native.Nat.{ℕ, zero, suc, _+_}
 use native.Mathlib.Omega.{arith}
 use lib.Dec.{T}
 use lib.ListN.{length, drop, length-append, length-map}
-use Rattle.lists.specs.Selections.{all, count}
+use Rattle.lists.specs.Selections.{count}
+use Rattle.lists.specs.InsideSelections.{all}
 use Rattle.lists.proofs.Selections.{both, cases, count-append, all-append, is-false, length-split}
 use Rattle.bill_files.specs.Accepted.{Bill, BillFile}
 use Rattle.entries.specs.declared.Entry.{Entry}

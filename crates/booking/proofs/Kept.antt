@@ -10,7 +10,8 @@ use native.Mathlib.Omega.{arith}
 use borrow.Author.Tests.{eq-eqb}
 use lib.Dec.{T, eqb, ltb}
 use lib.ListN.{length, set}
-use Rattle.lists.specs.Selections.{any, all}
+use Rattle.lists.specs.Selections.{any}
+use Rattle.lists.specs.InsideSelections.{all}
 use Rattle.lists.proofs.Selections.{cases, both, is-true, and-both, all-of-filter}
 use Rattle.calendar.specs.Periods.{sharesDay}
 use Rattle.calendar.proofs.Periods.{shares-day}

@@ -8,7 +8,8 @@ use native.Mathlib.Omega.{arith}
 use borrow.Author.Tests.{eqb-true, eq-eqb}
 use lib.Dec.{T, eqb}
 use lib.ListN.{length}
-use Rattle.lists.specs.Selections.{filter, all, count, distinct}
+use Rattle.lists.specs.Selections.{filter, count}
+use Rattle.lists.specs.InsideSelections.{all, distinct}
 use Rattle.lists.proofs.Selections.{cases, both, is-false, and-left, and-right, and-both, count-append, count-map, count-split, count-none, distinct-count}
 use Rattle.bill_files.specs.Accepted.{Bill}
 use Rattle.entries.specs.declared.Entry.{Entry}

@@ -10,7 +10,8 @@ use native.Mathlib.Nat.{le-trans}
 use native.Mathlib.Omega.{arith}
 use lib.Dec.{T}
 use lib.IntN.{ℤ, negℤ, _+ℤ_, +ℤ-idr, +ℤ-assoc, +ℤ-comm, +ℤ-negℤ-cancel}
-use Rattle.lists.specs.Selections.{filter, any, all, count, sum}
+use Rattle.lists.specs.Selections.{filter, any, count, sum}
+use Rattle.lists.specs.InsideSelections.{all}
 use Rattle.lists.proofs.Selections.{and-left, and-right, and-both, is-true, both, is-false, neither, map-append, filter-append, any-append, count-append, count-mono, the-one, sum-append}
 use Rattle.bill_files.specs.Accepted.{Bill}
 use Rattle.booking.specs.InsidePasses.{Key, sameKey, keyOf}

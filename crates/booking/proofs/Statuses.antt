@@ -10,7 +10,8 @@ use native.Mathlib.Omega.{arith}
 use lib.Dec.{T, eqb, eqb→eq}
 use lib.ListN.{length, getD, length-append, length-map}
 use lib.Seq.{getD-append-seam}
-use Rattle.lists.specs.Selections.{filter, any, count, distinct}
+use Rattle.lists.specs.Selections.{filter, any, count}
+use Rattle.lists.specs.InsideSelections.{distinct}
 use Rattle.lists.proofs.Selections.{is-true, from-true, eq→eqb, and-left, and-right, and-both, both, is-false, neither, cases, map-append, filter-append, any-ext, distinct-snoc}
 use Rattle.calendar.specs.Periods.{sharesDay}
 use Rattle.calendar.proofs.Periods.{shares-day}

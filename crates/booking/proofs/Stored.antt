@@ -6,7 +6,8 @@ use mathlib.Core.List.{List, [], _∷_, _++_, map, map-map, append-nil}
 use Prim.Native.Nat.{ℕ, suc}
 use lib.Dec.{T, eqb, eqb→eq, eqb·zero-suc}
 use borrow.Author.Tests.{eqb-true, eqb-false, eq-eqb}
-use Rattle.lists.specs.Selections.{filter, any, all}
+use Rattle.lists.specs.Selections.{filter, any}
+use Rattle.lists.specs.InsideSelections.{all}
 use Rattle.lists.proofs.Selections.{is-true, from-true, both, is-false, not-false, and-left, cases, map-append, filter-map, any-map, map-filter-ext, filter-append, filter-ext, any-ext, filter-under, any-under, any-filter, all-filter}
 use Rattle.calendar.specs.Periods.{sharesDay}
 use Rattle.calendar.proofs.Periods.{shares-day-symmetric}

@@ -8,7 +8,8 @@ use Prim.Native.Nat.{ℕ, suc, _≤_}
 use native.Mathlib.Nat.{le-trans, le-of-eq}
 use native.Mathlib.Omega.{arith}
 use lib.Dec.{T}
-use Rattle.lists.specs.Selections.{filter, any, all, count, distinct}
+use Rattle.lists.specs.Selections.{filter, any, count}
+use Rattle.lists.specs.InsideSelections.{all, distinct}
 use Rattle.lists.proofs.Selections.{is-true, both, is-false, cases, count-map, count-append, count-split, count-none, count-filter-le, distinct-count}
 use Rattle.bill_files.specs.Accepted.{Bill, BillFile}
 use Rattle.entries.specs.declared.Entry.{Entry}

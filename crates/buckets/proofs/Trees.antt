@@ -81,18 +81,18 @@ module _ (size : ℕ) (values : List ℕ) where
         let other = getD-set-other tree s (slotAt size tree x n) v 0 (λ z. omega (arith, P n (omega arith) .0, empty, ap (λ (k : ℕ). getD tree k 0) z)) in
         ap (λ (k : ℕ). size + 2 * (k - 1) + restAt x n % 2) (ap (λ (k : ℕ). getD (set tree s v) k 0) before ∙ other)
 
-    held-kept : (x n : ℕ) → Passed size values tree x n → 0 < getD tree (slotAt size tree x n) 0 → getD (set tree s v) (slotAt size (set tree s v) x n) 0 ≡ getD tree (slotAt size tree x n) 0
-    held-kept x n P some =
+    content-kept : (x n : ℕ) → Passed size values tree x n → 0 < getD tree (slotAt size tree x n) 0 → getD (set tree s v) (slotAt size (set tree s v) x n) 0 ≡ getD tree (slotAt size tree x n) 0
+    content-kept x n P some =
         ap (λ (k : ℕ). getD (set tree s v) k 0) (slot-kept x n P)
         ∙ getD-set-other tree s (slotAt size tree x n) v 0 (λ z. omega (arith, some, empty, ap (λ (k : ℕ). getD tree k 0) z))
 
     passed-kept : (x n : ℕ) → Passed size values tree x n → Passed size values (set tree s v) x n
     passed-kept x n P j h =
-        let e = held-kept x j (λ i l. P i (omega arith)) (P j h .0) in
+        let e = content-kept x j (λ i l. P i (omega arith)) (P j h .0) in
         (omega (arith, e, P j h .0), λ z. P j h .1 (ap (λ (k : ℕ). getD values (k - 1) 0) (sym e) ∙ z))
 
     found-kept : (x p : ℕ) → Found size values tree x p → Found size values (set tree s v) x p
-    found-kept x p f = record { steps = f .steps; passed = passed-kept x (f .steps) (f .passed); here = held-kept x (f .steps) (f .passed) (omega (arith, f .here)) ∙ f .here }
+    found-kept x p f = record { steps = f .steps; passed = passed-kept x (f .steps) (f .passed); here = content-kept x (f .steps) (f .passed) (omega (arith, f .here)) ∙ f .here }
 
   module _ (m : ℕ) (tree : List ℕ) (I : Indexed size values m tree) where
     -- an earlier place has the value of the place m
@@ -157,23 +157,23 @@ module _ (size : ℕ) (values : List ℕ) where
                 here = ap (λ (k : ℕ). getD (set tree s (m + 1)) k 0) (slot-kept tree s (m + 1) none (getD values m 0) n P) ∙ at-slot;
               })
 
--- ---- a search for x that has come to a slot, which holds `held`
-pub record Walked (size : ℕ) (values : List ℕ) (m : ℕ) (tree : List ℕ) (x slot held rest : ℕ) : Type 0 where
+-- ---- a search for x that has come to a slot, which holds `content`
+pub record Walked (size : ℕ) (values : List ℕ) (m : ℕ) (tree : List ℕ) (x slot content rest : ℕ) : Type 0 where
   pub steps : ℕ
   pub passed : Passed size values tree x steps
   pub at : slot ≡ slotAt size tree x steps
   pub left : rest ≡ restAt x steps
-  pub holds : held ≡ getD tree slot 0
+  pub holds : content ≡ getD tree slot 0
   pub below : slot < size + 2 * m
-  pub few : held ≤ m
+  pub few : content ≤ m
 
 -- how far it is from its end at most
 abbrev pub distance : ℕ → ℕ → ℕ
-distance m held = cond (eqb held 0) 0 (m + 1 - held)
+distance m content = cond (eqb content 0) 0 (m + 1 - content)
 
 module _ (size : ℕ) (values : List ℕ) (m : ℕ) (tree : List ℕ) (I : Indexed size values m tree) (x : ℕ) where
-  pub held-few : (slot : ℕ) → getD tree slot 0 ≤ m
-  held-few slot = go (eqb (getD tree slot 0) 0) refl
+  pub content-few : (slot : ℕ) → getD tree slot 0 ≤ m
+  content-few slot = go (eqb (getD tree slot 0) 0) refl
     where
       go : (b : Bool) → eqb (getD tree slot 0) 0 ≡ b → getD tree slot 0 ≤ m
       go true e = omega (arith, eqb-true (getD tree slot 0) 0 e)
@@ -181,25 +181,25 @@ module _ (size : ℕ) (values : List ℕ) (m : ℕ) (tree : List ℕ) (I : Index
 
   pub walk-start : (slot : ℕ) → slot ≡ bucketOf size x → slot < size → Walked size values m tree x slot (getD tree slot 0) x
   unfolding slotAt restAt
-  walk-start slot e h = record { steps = 0; passed = λ j l. absurd (omega arith); at = e; left = refl; holds = refl; below = omega arith; few = held-few slot }
+  walk-start slot e h = record { steps = 0; passed = λ j l. absurd (omega arith); at = e; left = refl; holds = refl; below = omega arith; few = content-few slot }
 
-  module _ {slot held rest : ℕ} (W : Walked size values m tree x slot held rest) where
-    some-held : (held ≡ 0 → ⊥) → 0 < getD tree (slotAt size tree x (W .steps)) 0
-    some-held n = let z : held ≡ getD tree (slotAt size tree x (W .steps)) 0 = W .holds ∙ ap (λ (k : ℕ). getD tree k 0) (W .at) in omega (arith, n, z)
+  module _ {slot content rest : ℕ} (W : Walked size values m tree x slot content rest) where
+    some-content : (content ≡ 0 → ⊥) → 0 < getD tree (slotAt size tree x (W .steps)) 0
+    some-content n = let z : content ≡ getD tree (slotAt size tree x (W .steps)) 0 = W .holds ∙ ap (λ (k : ℕ). getD tree k 0) (W .at) in omega (arith, n, z)
 
-    held-is : held ≡ getD tree (slotAt size tree x (W .steps)) 0
-    held-is = W .holds ∙ ap (λ (k : ℕ). getD tree k 0) (W .at)
+    content-is : content ≡ getD tree (slotAt size tree x (W .steps)) 0
+    content-is = W .holds ∙ ap (λ (k : ℕ). getD tree k 0) (W .at)
 
-    pub walk-more : (held ≡ 0 → ⊥) → (getD values (held - 1) 0 ≡ x → ⊥) → (next : ℕ) → next ≡ size + 2 * (held - 1) + rest % 2 → Walked size values m tree x next (getD tree next 0) (rest / 2)
+    pub walk-more : (content ≡ 0 → ⊥) → (getD values (content - 1) 0 ≡ x → ⊥) → (next : ℕ) → next ≡ size + 2 * (content - 1) + rest % 2 → Walked size values m tree x next (getD tree next 0) (rest / 2)
     unfolding slotAt restAt
     walk-more n other next e = record {
       steps = suc (W .steps);
       passed = λ j l. passed j l (decLt j (W .steps));
-      at = e ∙ ap (λ (k : ℕ). size + 2 * (k - 1) + rest % 2) held-is ∙ ap (λ (k : ℕ). size + 2 * (getD tree (slotAt size tree x (W .steps)) 0 - 1) + k % 2) (W .left);
+      at = e ∙ ap (λ (k : ℕ). size + 2 * (k - 1) + rest % 2) content-is ∙ ap (λ (k : ℕ). size + 2 * (getD tree (slotAt size tree x (W .steps)) 0 - 1) + k % 2) (W .left);
       left = ap (λ (k : ℕ). k / 2) (W .left);
       holds = refl;
       below = omega (arith, e, W .few, n);
-      few = held-few next;
+      few = content-few next;
     }
       where
         passed : (j : ℕ) → j < suc (W .steps) → Dec (j < W .steps) → (0 < getD tree (slotAt size tree x j) 0) × (getD values (getD tree (slotAt size tree x j) 0 - 1) 0 ≡ x → ⊥)
@@ -207,50 +207,50 @@ module _ (size : ℕ) (values : List ℕ) (m : ℕ) (tree : List ℕ) (I : Index
         passed j l (no h) =
             let z : W .steps ≡ j = omega (arith, h) in
             subst (λ (k : ℕ). (0 < getD tree (slotAt size tree x k) 0) × (getD values (getD tree (slotAt size tree x k) 0 - 1) 0 ≡ x → ⊥)) z
-            (some-held n, λ q. other (ap (λ (k : ℕ). getD values (k - 1) 0) held-is ∙ q))
+            (some-content n, λ q. other (ap (λ (k : ℕ). getD values (k - 1) 0) content-is ∙ q))
 
-    pub walk-closer : (held ≡ 0 → ⊥) → (next : ℕ) → next ≡ size + 2 * (held - 1) + rest % 2 → distance m (getD tree next 0) < distance m held
-    walk-closer n next e = rw (ne-eqb held 0 n) (go (eqb (getD tree next 0) 0) refl)
+    pub walk-closer : (content ≡ 0 → ⊥) → (next : ℕ) → next ≡ size + 2 * (content - 1) + rest % 2 → distance m (getD tree next 0) < distance m content
+    walk-closer n next e = rw (ne-eqb content 0 n) (go (eqb (getD tree next 0) 0) refl)
       where
-        go : (b : Bool) → eqb (getD tree next 0) 0 ≡ b → cond b 0 (m + 1 - getD tree next 0) < m + 1 - held
+        go : (b : Bool) → eqb (getD tree next 0) 0 ≡ b → cond b 0 (m + 1 - getD tree next 0) < m + 1 - content
         go true q = omega (arith, W .few)
         go false q =
             let some = eqb-false (getD tree next 0) 0 q in
-            let up = I .rising (held - 1) (rest % 2) (subst (λ (k : ℕ). 0 < getD tree k 0) e (let z : 0 < getD tree next 0 = omega (arith, some) in z)) (omega arith) in
-            let same : getD tree next 0 ≡ getD tree (size + 2 * (held - 1) + rest % 2) 0 = ap (λ (k : ℕ). getD tree k 0) e in
-            omega (arith, up, same, n, held-few next)
+            let up = I .rising (content - 1) (rest % 2) (subst (λ (k : ℕ). 0 < getD tree k 0) e (let z : 0 < getD tree next 0 = omega (arith, some) in z)) (omega arith) in
+            let same : getD tree next 0 ≡ getD tree (size + 2 * (content - 1) + rest % 2) 0 = ap (λ (k : ℕ). getD tree k 0) e in
+            omega (arith, up, same, n, content-few next)
 
-    pub walk-found : (held ≡ 0 → ⊥) → getD values (held - 1) 0 ≡ x → (r : Spot) → r .slot ≡ slot → r .held ≡ held → Searched size values m tree x r
+    pub walk-found : (content ≡ 0 → ⊥) → getD values (content - 1) 0 ≡ x → (r : Spot) → r .slot ≡ slot → r .content ≡ content → Searched size values m tree x r
     walk-found n e r p q = record {
       steps = W .steps;
       passed = W .passed;
       slot = p ∙ W .at;
-      held = q ∙ W .holds ∙ ap (λ (k : ℕ). getD tree k 0) (sym p);
+      content = q ∙ W .holds ∙ ap (λ (k : ℕ). getD tree k 0) (sym p);
       below = omega (arith, p, W .below);
-      first = λ _. search-found size values m tree I x (W .steps) (W .passed) (some-held n) (ap (λ (k : ℕ). getD values (k - 1) 0) (sym held-is) ∙ e) ∙ ap (λ (k : ℕ). k - 1) (sym held-is ∙ sym q);
+      first = λ _. search-found size values m tree I x (W .steps) (W .passed) (some-content n) (ap (λ (k : ℕ). getD values (k - 1) 0) (sym content-is) ∙ e) ∙ ap (λ (k : ℕ). k - 1) (sym content-is ∙ sym q);
       none = λ z. absurd (n (sym q ∙ z));
     }
 
-    pub walk-end : held ≡ 0 → (r : Spot) → r .slot ≡ slot → r .held ≡ held → Searched size values m tree x r
+    pub walk-end : content ≡ 0 → (r : Spot) → r .slot ≡ slot → r .content ≡ content → Searched size values m tree x r
     walk-end e r p q = record {
       steps = W .steps;
       passed = W .passed;
       slot = p ∙ W .at;
-      held = q ∙ W .holds ∙ ap (λ (k : ℕ). getD tree k 0) (sym p);
+      content = q ∙ W .holds ∙ ap (λ (k : ℕ). getD tree k 0) (sym p);
       below = omega (arith, p, W .below);
       first = λ n. absurd (n (q ∙ e));
-      none = λ _. search-ended size values m tree I x (W .steps) (W .passed) (sym held-is ∙ e);
+      none = λ _. search-ended size values m tree I x (W .steps) (W .passed) (sym content-is ∙ e);
     }
 
 -- ---- the place m, after its value was searched for
 module _ (size : ℕ) (values : List ℕ) (m : ℕ) (tree : List ℕ) (I : Indexed size values m tree) (r : Spot) (S : Searched size values m tree (getD values m 0) r) where
-  pub keep-place : (r .held ≡ 0 → ⊥) → Indexed size values (m + 1) tree
-  keep-place n = indexed-kept size values m tree I (λ leads. omega (arith, leads, S .first n, n, S .held, held-few size values m tree I 0 (r .slot)))
+  pub keep-place : (r .content ≡ 0 → ⊥) → Indexed size values (m + 1) tree
+  keep-place n = indexed-kept size values m tree I (λ leads. omega (arith, leads, S .first n, n, S .content, content-few size values m tree I 0 (r .slot)))
 
-  pub put-place : r .held ≡ 0 → r .slot < length tree → Indexed size values (m + 1) (set tree (r .slot) (m + 1))
+  pub put-place : r .content ≡ 0 → r .slot < length tree → Indexed size values (m + 1) (set tree (r .slot) (m + 1))
   put-place e inside =
       subst (λ (k : ℕ). Indexed size values (m + 1) (set tree k (m + 1))) (sym (S .slot))
-      (indexed-more size values m tree I (S .steps) (S .passed) (ap (λ (k : ℕ). getD tree k 0) (sym (S .slot)) ∙ sym (S .held) ∙ e) (omega (arith, S .slot, inside)) (omega (arith, S .slot, S .below)))
+      (indexed-more size values m tree I (S .steps) (S .passed) (ap (λ (k : ℕ). getD tree k 0) (sym (S .slot)) ∙ sym (S .content) ∙ e) (omega (arith, S .slot, inside)) (omega (arith, S .slot, S .below)))
 
 -- ---- the place m, whose first place is known
 module _ (values : List ℕ) (m : ℕ) {first : ℕ} (e : first ≡ firstPlace values m (getD values m 0)) where

@@ -1,5 +1,5 @@
 -- Places in buckets by a value that each place has. A bucket's places hang in a chain, the latest first: all of them are there, those of equal values too.
--- A place is held as itself and one; 0 says none.
+-- A place stands as itself and one; 0 says none.
 -- Assumes nothing.
 use mathlib.Core.Path.{_≡_}
 use mathlib.Core.Bool.{Bool, true, false}

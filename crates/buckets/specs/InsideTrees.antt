@@ -42,10 +42,10 @@ pub record Searched (size : ℕ) (values : List ℕ) (m : ℕ) (tree : List ℕ)
   pub steps : ℕ
   pub passed : Passed size values tree x steps
   pub slot : r .slot ≡ slotAt size tree x steps
-  pub held : r .held ≡ getD tree (r .slot) 0
+  pub content : r .content ≡ getD tree (r .slot) 0
   pub below : r .slot < size + 2 * m
-  pub first : (r .held ≡ 0 → ⊥) → firstPlace values m x ≡ r .held - 1
-  pub none : r .held ≡ 0 → firstPlace values m x ≡ m
+  pub first : (r .content ≡ 0 → ⊥) → firstPlace values m x ≡ r .content - 1
+  pub none : r .content ≡ 0 → firstPlace values m x ≡ m
 
 -- an earlier place has the value at i
 unfoldable pub repeatsAt : List ℕ → ℕ → Bool

@@ -1,6 +1,6 @@
 // Places by their values, in buckets: the first place that has a value, by a tree in each bucket, and all places that have one, by a chain.
 // In a tree a search looks at one place for each bit of its value at most, however the values are chosen.
-// A place is held as itself and one, in 16 bits: there are at most 65,535 places.
+// A place stands as itself and one, in 16 bits: there are at most 65,535 places.
 ghost use mathlib.Core.Path.{_≡_};
 ghost use Prim.Native.Nat.{ℕ, _+_, _-_, _*_, _≤_, _<_};
 ghost use lib.ListN.{length, getD};
@@ -21,7 +21,7 @@ pub fn bucket(value: u64, size: usize) -> usize
 // Where a search ends: the slot, and what it holds.
 pub struct Spot {
     pub slot: usize,
-    pub held: usize,
+    pub content: usize,
 }
 
 // Searches the first m places for a value.
@@ -31,18 +31,18 @@ fn search(values: &[u64], m: usize, size: usize, tree: &[u16], value: u64) -> Sp
     ensures { λ r. ⌜ Searched size (now (values .entry)) m (now (tree .entry)) value r ⌝ }
 {
     let mut slot = bucket(value, size);
-    let mut held = tree[slot] as usize;
+    let mut content = tree[slot] as usize;
     let mut rest = value;
-    while held != 0 {
-        if values[held - 1] == value {
-            return Spot { slot, held };
+    while content != 0 {
+        if values[content - 1] == value {
+            return Spot { slot, content };
         }
         let bit = (rest % 2) as usize;
-        slot = size + 2 * (held - 1) + bit;
-        held = tree[slot] as usize;
+        slot = size + 2 * (content - 1) + bit;
+        content = tree[slot] as usize;
         rest = rest / 2;
     }
-    Spot { slot, held }
+    Spot { slot, content }
 }
 
 // Puts the place m into the tree, unless an earlier one has its value, and answers the first place that has it.
@@ -53,9 +53,9 @@ fn put(values: &[u64], m: usize, size: usize, tree: &mut [u16]) -> usize
 {
     let spot = search(values, m, size, tree, values[m]);
     let slot = spot.slot;
-    let held = spot.held;
-    if held != 0 {
-        return held - 1;
+    let content = spot.content;
+    if content != 0 {
+        return content - 1;
     }
     tree[slot] = (m + 1) as u16;
     m
@@ -98,11 +98,11 @@ pub fn place_of(values: &[u64], n: usize, size: usize, tree: &[u16], value: u64)
     ensures { λ r. ⌜ r ≡ firstPlace (now (values .entry)) n value ⌝ }
 {
     let spot = search(values, n, size, tree, value);
-    let held = spot.held;
-    if held == 0 {
+    let content = spot.content;
+    if content == 0 {
         return n;
     }
-    held - 1
+    content - 1
 }
 
 // Puts the place i, which has a value, after all places before it into its bucket.

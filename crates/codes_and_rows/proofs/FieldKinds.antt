@@ -25,7 +25,7 @@ use Rattle.fields.specs.declared.FieldType.the-variants.{RecordId, Digits, Numb
 use Rattle.fields.specs.Fields.{fitsType}
 use Rattle.tables.specs.Tables.{fieldCount, fieldType}
 use Rattle.format.specs.Format.{commodityFields, unitFields, cancelFields, exemptionFields}
-use Rattle.columns.specs.Columns.{fieldTable, fieldOf, heldNumber, heldDay}
+use Rattle.columns.specs.Columns.{fieldTable, fieldOf, numberInColumn, dayInColumn}
 use Rattle.readings.specs.InsideLeadingBytes.{packed}
 use Rattle.readings.specs.InsideAmountReadings.{signedOf}
 use Rattle.readings.specs.InsideReadings.{Says}
@@ -87,7 +87,7 @@ isUsage (Varchar n) = false
 
 -- ---- what a number says of a field of the kind
 module _ (f : List ℕ) (n : ℕ) where
-  pub says-id : (t : FieldType) → T (isId t) → Says t f n → n ≡ heldNumber (digitsOf f)
+  pub says-id : (t : FieldType) → T (isId t) → Says t f n → n ≡ numberInColumn (digitsOf f)
   unfolding Says
   says-id RecordId h s = s
   says-id (Digits w) h s = s
@@ -97,7 +97,7 @@ module _ (f : List ℕ) (n : ℕ) where
   says-id (Char w) h s = absurd h
   says-id (Varchar w) h s = absurd h
 
-  pub says-date : (t : FieldType) → T (isDate t) → Says t f n → n ≡ heldDay (dayOf f)
+  pub says-date : (t : FieldType) → T (isDate t) → Says t f n → n ≡ dayInColumn (dayOf f)
   unfolding Says
   says-date RecordId h s = absurd h
   says-date (Digits w) h s = absurd h

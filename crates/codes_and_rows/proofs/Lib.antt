@@ -1,6 +1,6 @@
 pub mod CodeFields
 pub mod Codes
 pub mod FieldKinds
-pub mod Held
+pub mod Kept
 pub mod Rows
 pub mod Texts

@@ -17,7 +17,7 @@ use Rattle.calendar.specs.Calendar.{dayOf}
 use Rattle.amounts.specs.Amounts.{amountOf, units}
 use Rattle.records.specs.Records.{field, typeIn}
 use Rattle.tables.specs.Tables.{fieldCount, fieldType}
-use Rattle.columns.specs.Columns.{fieldOf, heldNumber, heldDay, heldCancel, held, numberIn, chargeIn, usageIn, charge, usage}
+use Rattle.columns.specs.Columns.{fieldOf, numberInColumn, dayInColumn, cancelInColumn, inColumn, numberIn, chargeIn, usageIn, charge, usage}
 use Rattle.readings.specs.InsideLeadingBytes.{packed, packedAfter}
 use Rattle.readings.specs.InsideAmountReadings.{signedOf}
 use Rattle.codes_and_rows.specs.InsideFields.{NumbersRead}
@@ -27,12 +27,12 @@ use Rattle.codes_and_rows.proofs.FieldKinds.{hasKind, kind-at, isId, is
 use Rattle.codes_and_rows.proofs.Codes.{stands-at, field-printable, text-number}
 
 module _ {type : ℕ} {line numbers : List ℕ} (read : NumbersRead type line numbers) (known : type < 9) where
-  id-column : (k : ℕ) → T (hasKind isId type k) → getD numbers k 0 ≡ heldNumber (digitsOf (field k line))
+  id-column : (k : ℕ) → T (hasKind isId type k) → getD numbers k 0 ≡ numberInColumn (digitsOf (field k line))
   unfolding field digitsOf
   id-column zero t = read .none
   id-column (suc j) t = let here = kind-at isId type j t in says-id (field (suc j) line) _ (fieldType type j) (here .1) (stands-at read known j (here .0) .says)
 
-  date-column : (k : ℕ) → T (hasKind isDate type k) → getD numbers k 0 ≡ heldDay (dayOf (field k line))
+  date-column : (k : ℕ) → T (hasKind isDate type k) → getD numbers k 0 ≡ dayInColumn (dayOf (field k line))
   unfolding field dayOf
   date-column zero t = read .none
   date-column (suc j) t = let here = kind-at isDate type j t in says-date (field (suc j) line) _ (fieldType type j) (here .1) (stands-at read known j (here .0) .says)
@@ -51,7 +51,7 @@ module _ {type : ℕ} {line numbers : List ℕ} (read : NumbersRead type line nu
       says-usage (field (suc j) line) _ (fieldType type j) (here .1) (stands .fits) (stands .says)
 
   module _ (printable : Printable line) where
-    cancel-column : (k : ℕ) → T (hasKind isShortText type k) → cond (eqb (getD numbers k 0) (packed (written "Y"))) 1 0 ≡ heldCancel (field k line)
+    cancel-column : (k : ℕ) → T (hasKind isShortText type k) → cond (eqb (getD numbers k 0) (packed (written "Y"))) 1 0 ≡ cancelInColumn (field k line)
     unfolding field packedAfter sameBytes
     cancel-column zero t = ap (λ (n : ℕ). cond {A = ℕ} (eqb n (packed (written "Y"))) 1 0) (read .none)
     cancel-column (suc j) t =
@@ -63,14 +63,14 @@ module _ {type : ℕ} {line numbers : List ℕ} (read : NumbersRead type line nu
       SameColumn : ℕ → Type 0
       SameColumn column = columnNumber type numbers column ≡ numberIn column line
 
-      id-same : (column : ℕ) → T (hasKind isId type (fieldOf column type)) → fieldNumber type numbers column ≡ heldNumber (digitsOf (field (fieldOf column (typeIn line)) line))
+      id-same : (column : ℕ) → T (hasKind isId type (fieldOf column type)) → fieldNumber type numbers column ≡ numberInColumn (digitsOf (field (fieldOf column (typeIn line)) line))
       id-same column t = rw named (id-column (fieldOf column type) t)
 
-      date-same : (column : ℕ) → T (hasKind isDate type (fieldOf column type)) → fieldNumber type numbers column ≡ heldDay (dayOf (field (fieldOf column (typeIn line)) line))
+      date-same : (column : ℕ) → T (hasKind isDate type (fieldOf column type)) → fieldNumber type numbers column ≡ dayInColumn (dayOf (field (fieldOf column (typeIn line)) line))
       date-same column t = rw named (date-column (fieldOf column type) t)
 
       columns-same : AllBelow SameColumn 8
-      unfolding SameColumn columnNumber numberIn held fieldCount fieldType
+      unfolding SameColumn columnNumber numberIn inColumn fieldCount fieldType
       columns-same = (
         (
           (

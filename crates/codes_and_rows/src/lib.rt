@@ -10,19 +10,38 @@ ghost use Rattle.columns.specs.Columns.{charge, usage};
 ghost use Rattle.columns.specs.InsideRows.{columnFields, RowStored};
 ghost use Rattle.codes_and_rows.specs.InsideNumbers.{codesStand, unitIf, columnNumbers, columnAmount};
 
-// The field of a type, counted from 1, that has each code of test 7; 0 where the type has none.
+// The fields that have the codes of test 7, counted from 1: Commodity Code, Usage UOM, Cancel Indicator and GST Exemption Indicator.
+const FH_COMMODITY: usize = 6;
+
+const HEADER_UNIT: usize = 13;
+
+const DU_UNIT: usize = 17;
+
+const CANCEL_INDICATOR: usize = 7;
+
+const OC_CANCEL_INDICATOR: usize = 6;
+
+const CH_EXEMPTION: usize = 19;
+
+const OC_EXEMPTION: usize = 11;
+
+// The field of a type that has each of them; 0 where the type has none.
 fn commodity_field(record_type: u64) -> usize
     ensures { λ r. ⌜ r ≡ getD commodityFields record_type 0 ⌝ }
 {
-    if record_type == 0 { 6 } else { 0 }
+    if record_type == tables::FH {
+        FH_COMMODITY
+    } else {
+        0
+    }
 }
 
 fn unit_field(record_type: u64) -> usize
     ensures { λ r. ⌜ r ≡ getD unitFields record_type 0 ⌝ }
 {
     match record_type {
-        1 | 2 => 13,
-        3 => 17,
+        tables::SH | tables::TH => HEADER_UNIT,
+        tables::DU => DU_UNIT,
         _ => 0,
     }
 }
@@ -31,8 +50,8 @@ fn cancel_field(record_type: u64) -> usize
     ensures { λ r. ⌜ r ≡ getD cancelFields record_type 0 ⌝ }
 {
     match record_type {
-        2 | 3 | 4 | 5 | 6 => 7,
-        7 => 6,
+        tables::TH | tables::DU | tables::DD | tables::DM | tables::CH => CANCEL_INDICATOR,
+        tables::OC => OC_CANCEL_INDICATOR,
         _ => 0,
     }
 }
@@ -41,11 +60,24 @@ fn exemption_field(record_type: u64) -> usize
     ensures { λ r. ⌜ r ≡ getD exemptionFields record_type 0 ⌝ }
 {
     match record_type {
-        6 => 19,
-        7 => 11,
+        tables::CH => CH_EXEMPTION,
+        tables::OC => OC_EXEMPTION,
         _ => 0,
     }
 }
+
+// The codes that test 7 knows, as the reader packs a text: its bytes to the base 256.
+const EL: u64 = 17740;
+
+const NG: u64 = 20039;
+
+const KWH: u64 = 4937544;
+
+const GJ: u64 = 18250;
+
+const YES: u64 = 89;
+
+const NO: u64 = 78;
 
 // Whether the number of field k is one of two; field 0, which there is not, passes.
 fn is_either(k: usize, numbers: &[u64], one: u64, two: u64) -> bool
@@ -66,17 +98,17 @@ pub fn codes_stand(record_type: u64, numbers: &[u64], electricity: bool) -> bool
     requires { ⌜ length (now numbers) ≡ 24 ⌝ }
     ensures { λ r. ⌜ r ≡ codesStand (unitIf electricity) record_type (now (numbers .entry)) ⌝ }
 {
-    let unit: u64 = if electricity { 4937544 } else { 18250 };
-    if !is_either(commodity_field(record_type), numbers, 17740, 20039) {
+    let unit: u64 = if electricity { KWH } else { GJ };
+    if !is_either(commodity_field(record_type), numbers, EL, NG) {
         return false;
     }
     if !is_either(unit_field(record_type), numbers, unit, unit) {
         return false;
     }
-    if !is_either(cancel_field(record_type), numbers, 89, 78) {
+    if !is_either(cancel_field(record_type), numbers, YES, NO) {
         return false;
     }
-    is_either(exemption_field(record_type), numbers, 89, 78)
+    is_either(exemption_field(record_type), numbers, YES, NO)
 }
 
 // Puts what the columns hold of line i, a record of a type, into them: the numbers of its fields, by the table of the columns' fields, which is lent.
@@ -105,7 +137,7 @@ pub fn store_line(
         c += 1;
     }
     let cancel = fields[row][7];
-    words[7 * room + i] = if numbers[cancel] == 89 { 1 } else { 0 };
+    words[7 * room + i] = if numbers[cancel] == YES { 1 } else { 0 };
     let charge = fields[row][8];
     charges[i] = readings::signed(numbers[charge]);
     let usage = fields[row][9];

@@ -1,5 +1,5 @@
 -- What callers learn of columns.
---     number-held                      what is held, less one, is the field's number
+--     number-kept                      what stands in a column, less one, is the field's number
 --     number-none                      and 0 says that the field has none
 --     number-small                     a number that is read has at most 15 digits
 --     charge-bound, usage-bound        and so have the amounts of a line
@@ -21,18 +21,18 @@ use Rattle.digits.specs.Digits.{digitsOf}
 use Rattle.digits.proofs.Laws.{ten-room, digits-say, digits-bound}
 use Rattle.amounts.specs.Amounts.{amountOf, units}
 use Rattle.amounts.proofs.Laws.{units-bound}
-use Rattle.columns.specs.Columns.{heldNumber, heldDay, fieldIn, charge, usage, numberIn, chargeIn, usageIn}
+use Rattle.columns.specs.Columns.{numberInColumn, dayInColumn, fieldIn, charge, usage, numberIn, chargeIn, usageIn}
 use Rattle.columns.specs.InsideColumns.{columnAt, ColumnsRead}
 
--- ---- numbers that are held
+-- ---- numbers in columns
 less-one : {A : Type 0} (value : ℕ → A) (m n : ℕ) → m + 1 ≡ suc n → value m ≡ value n
 less-one value m n e = ap value (omega (arith, e))
 
-pub number-held : (x : Number) (n : ℕ) → heldNumber x ≡ suc n → x ≡ Value n
-number-held (Value m) n e = less-one Value m n e
-number-held Other n e = absurd (omega (arith, e))
+pub number-kept : (x : Number) (n : ℕ) → numberInColumn x ≡ suc n → x ≡ Value n
+number-kept (Value m) n e = less-one Value m n e
+number-kept Other n e = absurd (omega (arith, e))
 
-pub number-none : (x : Number) → heldNumber x ≡ 0 → x ≡ Other
+pub number-none : (x : Number) → numberInColumn x ≡ 0 → x ≡ Other
 number-none (Value m) e = absurd (omega (arith, e))
 number-none Other e = refl
 

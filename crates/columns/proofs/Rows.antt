@@ -102,7 +102,7 @@ rows-end {room} {lines} {i} {words} r all few column h =
         ∙ r .at column k h (omega (arith, all))
         ∙ sym (map-at (numberIn column) [] 0 lines k l)
 
--- the first i lines have f of them in a column of amounts, which held `before`
+-- the first i lines have f of them in a column of amounts, which kept `before`
 pub record Amounts (f : List ℕ → ℤ) (lines : List (List ℕ)) (before : List ℤ) (i : ℕ) (column : List ℤ) : Type 0 where
   pub size : length column ≡ length before
   pub filled : Filled f lines before i column
@@ -122,7 +122,7 @@ pub amounts-end : {f : List ℕ → ℤ} {lines : List (List ℕ)} {before : Lis
 amounts-end {f} {lines} {before} {i} {column} r all =
     ap (λ (l : List ℤ). take (length lines) l) (filled-end f lines before i column all (r .filled)) ∙ filled-take f lines (drop (length lines) before)
 
--- ---- the columns: the first i lines are read, into columns of amounts that held `charges₀` and `usages₀`
+-- ---- the columns: the first i lines are read, into columns of amounts that kept `charges₀` and `usages₀`
 pub record Reading (lines : List (List ℕ)) (charges₀ usages₀ : List ℤ) (i : ℕ) (words : List ℕ) (charges usages : List ℤ) : Type 0 where
   pub numbers : Rows (length charges₀) lines i words
   pub charge : Amounts chargeIn lines charges₀ i charges

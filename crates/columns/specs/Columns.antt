@@ -73,25 +73,25 @@ fieldOf column type = cond (ltb column 10 && ltb type 9) (getD (getD fieldTable 
 abbrev pub fieldIn : ℕ → List ℕ → List ℕ
 fieldIn column line = field (fieldOf column (typeIn line)) line
 
--- ---- numbers: a number is held as itself and one, so that 0 says that the field has none
-abbrev pub heldNumber : Number → ℕ
-heldNumber (Value n) = n + 1
-heldNumber Other = 0
+-- ---- numbers: a number stands as itself and one, so that 0 says that the field has none
+abbrev pub numberInColumn : Number → ℕ
+numberInColumn (Value n) = n + 1
+numberInColumn Other = 0
 
-abbrev pub heldDay : Day → ℕ
-heldDay (At d) = d + 1
-heldDay NotADate = 0
+abbrev pub dayInColumn : Day → ℕ
+dayInColumn (At d) = d + 1
+dayInColumn NotADate = 0
 
 -- 1 for Y
-abbrev pub heldCancel : List ℕ → ℕ
-heldCancel s = cond (sameBytes s (written "Y")) 1 0
+abbrev pub cancelInColumn : List ℕ → ℕ
+cancelInColumn s = cond (sameBytes s (written "Y")) 1 0
 
 -- IDs in columns 1 to 4, days in 5 and 6, the Cancel Indicator in 7
-unfoldable pub held : ℕ → List ℕ → ℕ
-held column s = cond (ltb column 5) (heldNumber (digitsOf s)) (cond (ltb column 7) (heldDay (dayOf s)) (heldCancel s))
+unfoldable pub inColumn : ℕ → List ℕ → ℕ
+inColumn column s = cond (ltb column 5) (numberInColumn (digitsOf s)) (cond (ltb column 7) (dayInColumn (dayOf s)) (cancelInColumn s))
 
 unfoldable pub numberIn : ℕ → List ℕ → ℕ
-numberIn column line = cond (eqb column 0) (typeIn line) (held column (fieldIn column line))
+numberIn column line = cond (eqb column 0) (typeIn line) (inColumn column (fieldIn column line))
 
 -- ---- amounts, in units of their last place
 -- document 01: "An empty amount that isn't mandatory counts as zero"

@@ -11,11 +11,11 @@ use digits::Number;
 
 // The units of an amount of Number(precision, places).
 #[no_mangle]
-pub extern "C" fn comparison_amount(s: &[u8], precision: u64, places: u64, units: &mut i64) -> u64
-    ensures number { λ r. ⌜ r ≡ amountNumber (amountOf precision places (now (s .entry))) ⌝ }
-    ensures stored { λ r. ⌜ now (units .exit) ≡ unitsAfter (now (units .entry)) (amountOf precision places (now (s .entry))) ⌝ }
+pub extern "C" fn comparison_amount(s: &[u8], precision: u64, scale: u64, units: &mut i64) -> u64
+    ensures number { λ r. ⌜ r ≡ amountNumber (amountOf precision scale (now (s .entry))) ⌝ }
+    ensures stored { λ r. ⌜ now (units .exit) ≡ unitsAfter (now (units .entry)) (amountOf precision scale (now (s .entry))) ⌝ }
 {
-    match amounts::amount_of(s, precision as usize, places as usize) {
+    match amounts::amount_of(s, precision as usize, scale as usize) {
         Amount::Value(x) => {
             *units = x;
             0
@@ -32,10 +32,10 @@ fn one_if(b: bool) -> u64
 
 // 1 for bytes with the shape of a Number(precision, places), and 0.
 #[no_mangle]
-pub extern "C" fn comparison_number(s: &[u8], precision: u64, places: u64) -> u64
-    ensures { λ r. ⌜ r ≡ flag (isNumber precision places (now (s .entry))) ⌝ }
+pub extern "C" fn comparison_number(s: &[u8], precision: u64, scale: u64) -> u64
+    ensures { λ r. ⌜ r ≡ flag (isNumber precision scale (now (s .entry))) ⌝ }
 {
-    one_if(amounts::is_number(s, precision as usize, places as usize))
+    one_if(amounts::is_number(s, precision as usize, scale as usize))
 }
 
 fn digits_for(s: &[u8], n: usize) -> Number

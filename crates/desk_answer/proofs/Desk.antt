@@ -5,7 +5,7 @@ use mathlib.Core.List.{[], _∷_, _++_}
 use Rattle.lists.specs.Written.{written}
 use Rattle.refusals.specs.Codes.{codeIn, codeOf}
 use Rattle.booking.specs.Booking.{refusedResult, acceptedResult}
-use Rattle.writing.specs.InsideWriting.{digitsIn, countUpTo, digitCount, plainDigits}
+use Rattle.writing.specs.Decimals.{digitsIn, countUpTo, digitCount, plainDigits}
 use Rattle.desk_answer.specs.Line.{codeNumber, parted, acceptedLine, rejectedLine, lineOf}
 
 -- "Empty input prints `rejected 2 6002 1`."

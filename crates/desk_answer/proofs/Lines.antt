@@ -15,7 +15,8 @@ use lib.ListN.{length, length-append}
 use Rattle.booking.specs.declared.Answer.{Answer}
 use Rattle.booking.specs.declared.Answer.the-variants.{Refused, Accepted}
 use Rattle.booking.specs.Booking.{Result, resultOf}
-use Rattle.writing.specs.InsideWriting.{writtenAt, plainDigits}
+use Rattle.writing.specs.Decimals.{plainDigits}
+use Rattle.writing.specs.InsideWriting.{writtenAt}
 use Rattle.writing.proofs.Numbers.{plain-short}
 use Rattle.writing.proofs.Places.{piece}
 use Rattle.desk_answer.specs.Line.{codeNumber, parted, acceptedLine, rejectedLine, lineOf}

@@ -9,7 +9,7 @@ use Rattle.refusals.specs.declared.RejectionCode.{RejectionCode}
 use Rattle.refusals.specs.declared.RejectionCode.the-variants.{Code, NotATest}
 use Rattle.refusals.specs.Codes.{codeOf}
 use Rattle.booking.specs.Booking.{Result}
-use Rattle.writing.specs.InsideWriting.{plainDigits}
+use Rattle.writing.specs.Decimals.{plainDigits}
 
 -- "code (0 for house numbers)": 0 for every number that has no code
 abbrev pub codeOrZero : RejectionCode → ℕ

@@ -6,6 +6,22 @@ ghost use Rattle.entries.specs.Entries.{inState, period};
 ghost use Rattle.entries.specs.InsideWords.{RoomFor, entryAt, writes, wordsAt, amountsAt};
 use calendar::Period;
 
+// "kind (1 file, 2 period, 3 one-time charge)"
+pub const FILE: u64 = 1;
+
+pub const PERIOD: u64 = 2;
+
+pub const ONE_TIME_CHARGE: u64 = 3;
+
+// "state (1 live, 2 held, 3 cancelled, 4 cancel)"
+pub const LIVE: u64 = 1;
+
+pub const HELD: u64 = 2;
+
+pub const CANCELLED: u64 = 3;
+
+pub const CANCEL: u64 = 4;
+
 // The fields of document 01, and nothing else.
 #[repr(C)]
 pub struct Entry {
@@ -27,7 +43,7 @@ impl Entry {
     pub fn cancelled(mut self) -> Entry
         ensures { λ r. ⌜ r ≡ inState self 3 ⌝ }
     {
-        self.state = 3;
+        self.state = CANCELLED;
         self
     }
 

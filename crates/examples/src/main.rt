@@ -138,7 +138,7 @@ fn accepted_charge(words: &[u64], amounts: &[i64], used: usize) -> Charge
     let mut sum = Charge(0);
     for place in 0..used {
         let entry = entries::entry_at(words, amounts, place);
-        if entry.kind == 1 {
+        if entry.kind == entries::FILE {
             sum = sum.plus(Charge(entry.charge));
         }
     }

@@ -36,7 +36,7 @@ fitsFilled RecordId s = isRead (digitsOf s)
 -- "Site IDs are 13 digits, distributor IDs 4, retailer IDs 9"; A5.5: zone IDs 4
 fitsFilled (Digits n) s = isRead (fixedDigitsOf n s)
 -- "an optional minus, 1 to p - s digits, then optionally a point and 1 to s digits"
-fitsFilled (Num p places) s = isNumber p places s
+fitsFilled (Num p scale) s = isNumber p scale s
 -- "A date is eight digits, YYYYMMDD, years 2000 to 2099"
 fitsFilled Date s = isDay (dayOf s)
 -- "A date time is a date and six digits HHMMSS (000000 to 235959)"

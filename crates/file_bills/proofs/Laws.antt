@@ -24,7 +24,7 @@ use Rattle.entries.specs.InsideWords.{entryAt, writes, wordsAt, amountsAt}
 use Rattle.entries.proofs.Room.{room-fewer, room-same}
 use Rattle.entries.proofs.Words.{length-writes, written-here, written-elsewhere}
 use Rattle.booking.specs.Acceptable.{noBill, billAt}
-use Rattle.file_bills.specs.InsideBills.{sourceEntry, Source, heldReference, References}
+use Rattle.file_bills.specs.InsideBills.{sourceEntry, Source, referenceInColumn, References}
 use Rattle.file_bills.specs.InsideReading.{billsOf, BillRoom, Reading}
 
 -- ---- one line more
@@ -96,7 +96,7 @@ module _ (lines : List (List ℕ)) (i m : ℕ) (words : List ℕ) (amounts : Lis
       }
 
   module _ (room : BillRoom (i + 1) words amounts references at) (e : Entry) (reference : ℕ) (is : isBill (lineAt lines i) ≡ true)
-      (fits : e ≡ sourceEntry (billIn (lineAt lines 0) (lineAt lines i))) (refers : reference ≡ heldReference (billIn (lineAt lines 0) (lineAt lines i) .reference)) where
+      (fits : e ≡ sourceEntry (billIn (lineAt lines 0) (lineAt lines i))) (refers : reference ≡ referenceInColumn (billIn (lineAt lines 0) (lineAt lines i) .reference)) where
     bills : billsOf lines (i + 1) ≡ billsOf lines i ++ billIn (lineAt lines 0) (lineAt lines i) ∷ []
     bills = bills-here lines i h is
 
@@ -132,8 +132,8 @@ module _ (lines : List (List ℕ)) (i m : ℕ) (words : List ℕ) (amounts : Lis
           };
           refers = record {
             room = omega (arith, room .references-room, R .few, length-set references m reference);
-            each = stored 0 (λ k v. v ≡ heldReference (billAt (billsOf lines (i + 1)) k .reference)) references m reference (omega (arith, room .references-room, R .few))
-                (λ k q. R .refers .each k q ∙ ap (λ (b : Bill). heldReference (b .reference)) (kept k q)) (refers ∙ ap (λ (b : Bill). heldReference (b .reference)) last);
+            each = stored 0 (λ k v. v ≡ referenceInColumn (billAt (billsOf lines (i + 1)) k .reference)) references m reference (omega (arith, room .references-room, R .few))
+                (λ k q. R .refers .each k q ∙ ap (λ (b : Bill). referenceInColumn (b .reference)) (kept k q)) (refers ∙ ap (λ (b : Bill). referenceInColumn (b .reference)) last);
           };
           count = place-count (billLines 0 (take i lines)) (billLines 0 (take (i + 1) lines)) (i + 1) 0 m (R .count) numbers;
           stands = stored 0 (λ k v. v ≡ getD (billLines 0 (take (i + 1) lines)) k 0) at m (i + 1) (omega (arith, room .at-room, R .few))

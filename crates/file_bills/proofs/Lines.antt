@@ -20,31 +20,31 @@ use Rattle.calendar.specs.declared.Day.{Day}
 use Rattle.calendar.specs.declared.Day.the-variants.{At, NotADate}
 use Rattle.calendar.specs.Calendar.{dayOf}
 use Rattle.records.specs.Records.{field, typeIn}
-use Rattle.columns.specs.Columns.{fieldOf, fieldIn, heldNumber, heldDay, held, numberIn, chargeIn, usageIn, reference, site, startDay, endDay, cancel}
+use Rattle.columns.specs.Columns.{fieldOf, fieldIn, numberInColumn, dayInColumn, inColumn, numberIn, chargeIn, usageIn, reference, site, startDay, endDay, cancel}
 use Rattle.bill_files.specs.Accepted.{numberOrZero, numberOrNone, dayOrZero, senderIn, commodityIn, idIn, isPeriod, isBill, billIn}
 use Rattle.booking.specs.Booking.{orZero}
-use Rattle.file_bills.specs.InsideBills.{sourceEntry, heldReference}
+use Rattle.file_bills.specs.InsideBills.{sourceEntry, referenceInColumn}
 use Rattle.file_bills.specs.InsideReading.{entryFrom}
 
--- ---- numbers that are held as themselves and one
+-- ---- numbers that stand as themselves and one
 less : (n : ℕ) → n + 1 - 1 ≡ n
 less n = omega arith
 
-number-less : (x : Number) → heldNumber x - 1 ≡ numberOrZero x
+number-less : (x : Number) → numberInColumn x - 1 ≡ numberOrZero x
 number-less (Value n) = less n
 number-less Other = refl
 
-day-less : (x : Day) → heldDay x - 1 ≡ dayOrZero x
+day-less : (x : Day) → dayInColumn x - 1 ≡ dayOrZero x
 day-less (At n) = less n
 day-less NotADate = refl
 
-reference-less : (x : Number) → heldNumber x - 1 ≡ orZero (numberOrNone x)
+reference-less : (x : Number) → numberInColumn x - 1 ≡ orZero (numberOrNone x)
 reference-less (Value n) = less n
 reference-less Other = refl
 
-reference-held : (x : Number) → heldNumber x ≡ heldReference (numberOrNone x)
-reference-held (Value n) = refl
-reference-held Other = refl
+reference-kept : (x : Number) → numberInColumn x ≡ referenceInColumn (numberOrNone x)
+reference-kept (Value n) = refl
+reference-kept Other = refl
 
 cancel-flag : (t : Bool) → eqb (cond t 1 0) 1 ≡ t
 cancel-flag true = refl
@@ -69,32 +69,32 @@ unfolding numberIn
 type-at line = refl
 
 id-at : (line : List ℕ) → isBill line ≡ true → numberIn 1 line - 1 ≡ idIn line
-unfolding numberIn held
-id-at line e = ap (λ (k : ℕ). heldNumber (digitsOf (field k line)) - 1) (id-field (typeIn line) e) ∙ number-less (digitsOf (field 1 line))
+unfolding numberIn inColumn
+id-at line e = ap (λ (k : ℕ). numberInColumn (digitsOf (field k line)) - 1) (id-field (typeIn line) e) ∙ number-less (digitsOf (field 1 line))
 
 site-at : (line : List ℕ) → numberIn 3 line - 1 ≡ numberOrZero (digitsOf (fieldIn site line))
-unfolding numberIn held
+unfolding numberIn inColumn
 site-at line = number-less (digitsOf (fieldIn site line))
 
 start-at : (line : List ℕ) → numberIn 5 line - 1 ≡ dayOrZero (dayOf (fieldIn startDay line))
-unfolding numberIn held
+unfolding numberIn inColumn
 start-at line = day-less (dayOf (fieldIn startDay line))
 
 end-at : (line : List ℕ) → numberIn 6 line - 1 ≡ dayOrZero (dayOf (fieldIn endDay line))
-unfolding numberIn held
+unfolding numberIn inColumn
 end-at line = day-less (dayOf (fieldIn endDay line))
 
 cancel-at : (line : List ℕ) → eqb (numberIn 7 line) 1 ≡ sameBytes (fieldIn cancel line) (written "Y")
-unfolding numberIn held
+unfolding numberIn inColumn
 cancel-at line = cancel-flag (sameBytes (fieldIn cancel line) (written "Y"))
 
 reference-at : (line : List ℕ) → numberIn 4 line - 1 ≡ orZero (numberOrNone (digitsOf (fieldIn reference line)))
-unfolding numberIn held
+unfolding numberIn inColumn
 reference-at line = reference-less (digitsOf (fieldIn reference line))
 
-pub reference-is : (header line : List ℕ) → numberIn 4 line ≡ heldReference (billIn header line .reference)
-unfolding numberIn held billIn
-reference-is header line = reference-held (digitsOf (fieldIn reference line))
+pub reference-is : (header line : List ℕ) → numberIn 4 line ≡ referenceInColumn (billIn header line .reference)
+unfolding numberIn inColumn billIn
+reference-is header line = reference-kept (digitsOf (fieldIn reference line))
 
 pub bill-type : (line : List ℕ) → (eqb (numberIn 0 line) 2 || eqb (numberIn 0 line) 7) ≡ isBill line
 bill-type line = ap (λ (n : ℕ). eqb n 2 || eqb n 7) (type-at line)

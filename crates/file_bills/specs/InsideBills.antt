@@ -31,11 +31,11 @@ pub record Source (bills : List Bill) (words : List ℕ) (amounts : List ℤ) (n
   pub room : RoomFor n words amounts
   pub each : (k : ℕ) → k < n → entryAt words amounts k ≡ sourceEntry (billAt bills k)
 
--- ---- their Reference IDs: each is held as itself and one, and 0 says none, which an entry can't say
-abbrev pub heldReference : Option ℕ → ℕ
-heldReference none = 0
-heldReference (some m) = m + 1
+-- ---- their Reference IDs: each stands as itself and one, and 0 says none, which an entry can't say
+abbrev pub referenceInColumn : Option ℕ → ℕ
+referenceInColumn none = 0
+referenceInColumn (some m) = m + 1
 
 pub record References (bills : List Bill) (references : List ℕ) (n : ℕ) : Type 0 where
   pub room : n ≤ length references
-  pub each : (k : ℕ) → k < n → getD references k 0 ≡ heldReference (billAt bills k .reference)
+  pub each : (k : ℕ) → k < n → getD references k 0 ≡ referenceInColumn (billAt bills k .reference)

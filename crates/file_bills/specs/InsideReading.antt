@@ -13,7 +13,7 @@ use Rattle.entries.specs.declared.Entry.{Entry}
 use Rattle.entries.specs.InsideWords.{RoomFor}
 use Rattle.file_bills.specs.InsideBills.{Source, References}
 
--- the entry of a bill, from the numbers of its columns, which are held as themselves and one
+-- the entry of a bill, from the numbers of its columns, which stand as themselves and one
 unfoldable pub entryFrom : ℕ → ℕ → Bool → Bool → ℕ → ℕ → ℕ → ℕ → ℕ → ℤ → ℤ → Entry
 entryFrom sender commodity period cancel id site start end reference charge usage =
     record {

@@ -30,13 +30,13 @@ use digits::Number;
 use entries::Entry;
 
 // What a column holds as itself and one; 0 where it holds none.
-fn less_one(held: u64) -> u64
-    ensures { λ r. ⌜ r ≡ held - 1 ⌝ }
+fn less_one(kept: u64) -> u64
+    ensures { λ r. ⌜ r ≡ kept - 1 ⌝ }
 {
-    if held == 0 {
+    if kept == 0 {
         return 0;
     }
-    held - 1
+    kept - 1
 }
 
 // One of two numbers.
@@ -78,23 +78,23 @@ fn entry_from(
     Entry {
         sender,
         commodity,
-        kind: either(period, 2, 3),
+        kind: either(period, entries::PERIOD, entries::ONE_TIME_CHARGE),
         id: less_one(id),
         site: less_one(site),
         start: either(period, less_one(start), 0),
         end: either(period, less_one(end), 0),
         charge,
         usage: counted(period, usage),
-        state: either(cancel, 4, 1),
+        state: either(cancel, entries::CANCEL, entries::LIVE),
         cancels: either(cancel, less_one(reference), 0),
     }
 }
 
-// Whether a record is a TH (type 2) or an OC (type 7).
+// Whether a record is a TH or an OC.
 fn is_bill(record_type: u64) -> bool
     ensures { λ r. ⌜ r ≡ (eqb «record_type» TH || eqb «record_type» OC) ⌝ }
 {
-    (record_type == 2) | (record_type == 7)
+    (record_type == tables::TH) | (record_type == tables::OC)
 }
 
 // The number of a column at a line.
@@ -127,7 +127,7 @@ fn bill_entry(
     entry_from(
         sender,
         commodity,
-        number_at(words, room, RECORD_TYPE, n, i) == 2,
+        number_at(words, room, RECORD_TYPE, n, i) == tables::TH,
         number_at(words, room, CANCEL, n, i) == 1,
         number_at(words, room, RECORD_ID, n, i),
         number_at(words, room, SITE, n, i),
@@ -284,7 +284,7 @@ pub fn read_header(
     Entry {
         sender,
         commodity,
-        kind: 1,
+        kind: entries::FILE,
         id,
         site: 0,
         start: 0,

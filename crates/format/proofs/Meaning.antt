@@ -111,7 +111,7 @@ type-at (line ∷ lines) zero h = refl
 type-at (line ∷ lines) (suc i) h = type-at lines i (le-of-suc-le-suc h)
 
 ordered-is : (lines : List (List ℕ)) → 0 < length lines → ((i : ℕ) → i < length lines → Placeable (map typeIn lines) i) ↔ Ordered lines
-ordered-is lines some = (orders, places)
+ordered-is lines some = (orders, placed-all)
   where
     size : length (map typeIn lines) ≡ length lines
     size = length-map lines typeIn
@@ -126,8 +126,8 @@ ordered-is lines some = (orders, places)
               rw (back, type-at lines i (omega arith), type-at lines (i + 1) h) at (all (i + 1) h .later (λ z. omega arith));
         }
 
-    places : Ordered lines → (i : ℕ) → i < length lines → Placeable (map typeIn lines) i
-    places o i h =
+    placed-all : Ordered lines → (i : ℕ) → i < length lines → Placeable (map typeIn lines) i
+    placed-all o i h =
         record {
           first = λ z. type-at lines 0 some ∙ o .first;
           later = λ z.

@@ -1,7 +1,7 @@
 -- A loop that asks whether a test finds something below n, and stands at place i.
 --     some-here    it holds at i
 --     some-end     no place is left
--- A loop that passes all places, and keeps whether the test has held.
+-- A loop that passes all places, and keeps whether the test has kept.
 --     some-start, some-now, some-kept    before the first place; the test holds at i; it doesn't
 -- Assumes nothing.
 use mathlib.Core.Path.{_≡_, refl, sym, _∙_}

@@ -88,12 +88,12 @@ fn is_misplaced(table: &[[bool; 9]; 9], types: &[u64], i: usize) -> bool
 {
     let present = types[i];
     if i + 1 == types.len() {
-        if present != 8 {
+        if present != tables::FT {
             return true;
         }
     }
     if i == 0 {
-        return present != 0;
+        return present != tables::FH;
     }
     !tables::may_follow(table, types[i - 1], present)
 }

@@ -20,17 +20,17 @@ use Rattle.digits.specs.Digits.{fixedDigitsOf}
 use Rattle.amounts.specs.Amounts.{amountOf, units}
 use Rattle.totals.proofs.Laws.{same-is as amounts-equal, is-same as equal-amounts}
 use Rattle.records.specs.Records.{field}
-use Rattle.headers.specs.Headers.{isNumber, isOurs, isListed, countsRecords}
+use Rattle.headers.specs.Headers.{isValue, isOurs, isListed, countsRecords}
 use Rattle.headers.specs.Meaning.{Listed}
 use Rattle.headers.specs.InsideSteps.{isGroup}
 
 -- ---- test 11
-pub number-is : (n : ℕ) (read : Number) → isNumber n read ≡ true → read ≡ Value n
+pub number-is : (n : ℕ) (read : Number) → isValue n read ≡ true → read ≡ Value n
 number-is n (Value m) e = ap Value (eqb-true m n e)
 number-is n Other e = let z : _≡_ {A = ℕ} 0 1 = cc in absurd (omega arith)
 
-pub is-number : (n : ℕ) (read : Number) → read ≡ Value n → isNumber n read ≡ true
-is-number n read e = ap (isNumber n) e ∙ eq-eqb n n refl
+pub is-number : (n : ℕ) (read : Number) → read ≡ Value n → isValue n read ≡ true
+is-number n read e = ap (isValue n) e ∙ eq-eqb n n refl
 
 module _ (retailer : ℕ) (header : List ℕ) where
   pub ours-is : (isOurs retailer header ≡ true → fixedDigitsOf 9 (field 4 header) ≡ Value retailer)

@@ -16,12 +16,12 @@ use Rattle.totals.specs.Totals.{sameℤ}
 use Rattle.records.specs.Records.{field}
 
 -- ---- 11: "FH's retailer is ours"
-abbrev pub isNumber : ℕ → Number → Bool
-isNumber n (Value m) = eqb m n
-isNumber n Other = false
+abbrev pub isValue : ℕ → Number → Bool
+isValue n (Value m) = eqb m n
+isValue n Other = false
 
 unfoldable pub isOurs : ℕ → List ℕ → Bool
-isOurs retailer header = isNumber retailer (fixedDigitsOf 9 (field 4 header))
+isOurs retailer header = isValue retailer (fixedDigitsOf 9 (field 4 header))
 
 -- ---- 12: "its sender is listed in the settings": one of the groups of four digits
 abbrev pub group : List ℕ → ℕ → List ℕ

@@ -8,11 +8,11 @@ ghost use lib.IntN.{pos};
 ghost use Rattle.lists.specs.Below.{someBelow};
 ghost use Rattle.readings.specs.InsideAmountReadings.{signedOf};
 ghost use Rattle.totals.specs.Totals.{sameℤ};
-ghost use Rattle.headers.specs.Headers.{isNumber};
+ghost use Rattle.headers.specs.Headers.{isValue};
 ghost use Rattle.headers.specs.InsideSteps.{isSender};
 use digits::Number;
 
-// Test 11: whether the retailer that the header says is the given one. A number is held as itself and one; 0 says none.
+// Test 11: whether the retailer that the header says is the given one. A number stands as itself and one; 0 says none.
 pub fn is_ours(said: u64, retailer: u64) -> bool
     ensures { λ r. ⌜ r ≡ eqb said (retailer + 1) ⌝ }
 {
@@ -24,7 +24,7 @@ pub fn is_ours(said: u64, retailer: u64) -> bool
 
 // Whether what was read is the number n.
 fn is_number(read: Number, n: u64) -> bool
-    ensures { λ r. ⌜ r ≡ isNumber n read ⌝ }
+    ensures { λ r. ⌜ r ≡ isValue n read ⌝ }
 {
     match read {
         Number::Value(m) => m == n,

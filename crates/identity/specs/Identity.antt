@@ -16,7 +16,7 @@ unfoldable pub firstRepeated : List ℕ → ℕ
 firstRepeated ids = firstBelow (repeats ids) (length ids)
 
 -- ---- 10, 17, 38: the record at i, where it has a place to compare with, has its own value unlike that of the record there
--- (a place is held as itself and one; 0 says none)
+-- (a place stands as itself and one; 0 says none)
 unfoldable pub unlike : List ℕ → List ℕ → List ℕ → ℕ → Bool
 unlike places own theirs i = cond (eqb (at places i) 0) false (not (eqb (at own i) (at theirs (at places i - 1))))
 

@@ -31,7 +31,7 @@ use Rattle.booking.specs.Booking.{entry, namesEntry, refersTo, isLiveOrHeld, na
 use Rattle.booking.specs.Acceptable.{billAt}
 use Rattle.booking.proofs.Added.{length-cancelled}
 use Rattle.used_entries.specs.InsideSearches.{referenceOf, namesAs, namedFirst}
-use Rattle.file_bills.specs.InsideBills.{sourceEntry, isCancel, heldReference}
+use Rattle.file_bills.specs.InsideBills.{sourceEntry, isCancel, referenceInColumn}
 use Rattle.file_bills.proofs.Sources.{source-cancel, source-as}
 use Rattle.ledger_tests.specs.InsideTests.{cancelledBy, namedPlace, Named, Marked, names, Tried}
 use Rattle.ledger_tests.proofs.Cancelled.{named-some, named-none, cancel-first, cancelled-here, cancelled-past}
@@ -49,14 +49,14 @@ module _ (c : Entry) (place n k : ℕ) (marks named : List ℕ) where
   tried-some e f = record { answers = rw (e, f); marks-left = rw (e, f); named-left = rw (e, f) }
 
 -- ---- what a cancel names, by its entry and its Reference ID
-reference-back : (r : Option ℕ) → referenceOf (heldReference r) ≡ r
+reference-back : (r : Option ℕ) → referenceOf (referenceInColumn r) ≡ r
 reference-back none = refl
 reference-back (some m) = ap (λ (t : Bool). cond t none (some (m + 1 - 1))) (ne-eqb (m + 1) 0 (λ z. omega (arith, z))) ∙ ap some (less m)
   where
     less : (m : ℕ) → m + 1 - 1 ≡ m
     less m = omega arith
 
-names-same : (b : Bill) (e : Entry) → namesAs (heldReference (b .reference)) (entry b 4) e ≡ namesEntry b e
+names-same : (b : Bill) (e : Entry) → namesAs (referenceInColumn (b .reference)) (entry b 4) e ≡ namesEntry b e
 unfolding namesAs namesEntry
 names-same b e = ap (λ (r : Option ℕ). isLiveOrHeld e && refersTo r (e .id) && sameSubject (entry b 4) e) (reference-back (b .reference))
 
@@ -86,7 +86,7 @@ module _ (words : List ℕ) (amounts : List ℤ) (n : ℕ) (now : List Entry) (m
   long : length now ≡ n
   long = M .long ∙ length-entries words amounts n
 
-  at : (p : ℕ) → p < n → namesEntry b (entryOf now p) ≡ (eqb (getD marks p 0) 0 && namesAs (heldReference (b .reference)) (entry b 4) (entryAt words amounts p))
+  at : (p : ℕ) → p < n → namesEntry b (entryOf now p) ≡ (eqb (getD marks p 0) 0 && namesAs (referenceInColumn (b .reference)) (entry b 4) (entryAt words amounts p))
   at p h =
       ap (namesEntry b) (M .each p (omega (arith, length-entries words amounts n))) ∙ go (eqb (getD marks p 0) 0)
       ∙ ap (λ (t : Bool). eqb (getD marks p 0) 0 && t) (sym (names-same b (entryAt words amounts p)))
@@ -95,7 +95,7 @@ module _ (words : List ℕ) (amounts : List ℤ) (n : ℕ) (now : List Entry) (m
       go true = ap (namesEntry b) (entry-of words amounts n p h)
       go false = names-not b (entryOf l p)
 
-  named-is : namedFirst words amounts n marks (heldReference (b .reference)) (entry b 4) ≡ firstWhere (namesEntry b) now
+  named-is : namedFirst words amounts n marks (referenceInColumn (b .reference)) (entry b 4) ≡ firstWhere (namesEntry b) now
   unfolding namedFirst
   named-is = first-where (namesEntry b) now blank _ n long at
 
@@ -137,7 +137,7 @@ naming-none l bills marks named z = record {
 }
 
 module _ (words : List ℕ) (amounts : List ℤ) (n : ℕ) (bills : List Bill) (k : ℕ) (marks named : List ℕ) (G : Naming (entriesOf words amounts n) bills k marks named) (h : k < length bills)
-    (e : Entry) (same : e ≡ sourceEntry (billAt bills k)) (reference : ℕ) (refers : reference ≡ heldReference (billAt bills k .reference)) where
+    (e : Entry) (same : e ≡ sourceEntry (billAt bills k)) (reference : ℕ) (refers : reference ≡ referenceInColumn (billAt bills k .reference)) where
   abbrev ls : List Entry
   ls = entriesOf words amounts n
 

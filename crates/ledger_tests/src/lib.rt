@@ -33,7 +33,7 @@ fn name_cancel(
     requires { ⌜ (used ≤ length (now marks)) × (k < length (now named)) ⌝ }
     ensures { λ r. ⌜ Tried c (namedFirst (now (words .entry)) (now (amounts .entry)) used (now (marks .entry)) reference c) used k (now (marks .entry)) (now (named .entry)) (now (marks .exit)) (now (named .exit)) r ⌝ }
 {
-    if c.state != 4 {
+    if c.state != entries::CANCEL {
         return true;
     }
     let place = used_entries::first_named(words, amounts, used, heads, links, marks, reference, c);
@@ -93,7 +93,7 @@ fn is_unopposed(words: &[u64], amounts: &[i64], used: usize, c: Entry, place: us
     requires { ⌜ RoomFor used (now words) (now amounts) × (isCancel c ≡ true → place < used) ⌝ }
     ensures { λ r. ⌜ r ≡ (isCancel c && not (opposite c (entryAt (now (words .entry)) (now (amounts .entry)) place))) ⌝ }
 {
-    if c.state != 4 {
+    if c.state != entries::CANCEL {
         return false;
     }
     !soundness::is_opposite(c, entries::entry_at(words, amounts, place))

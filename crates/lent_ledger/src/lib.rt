@@ -89,7 +89,7 @@ fn written_from(words: &[u64], amounts: &[i64], used: usize, to: usize) -> usize
         return used;
     }
     let first = entries::entry_at(words, amounts, used + 1);
-    if first.state == 4 {
+    if first.state == entries::CANCEL {
         return 0;
     }
     used

@@ -43,7 +43,7 @@ fn no_head() -> Head
     ensures { λ r. ⌜ r .record_type ≡ 9 ⌝ }
 {
     Head {
-        record_type: 9,
+        record_type: tables::NO_TYPE,
         id_end: 0,
         parent_end: 0,
         type_end: 0,
@@ -58,7 +58,7 @@ fn head_filled(record_type: u64, id_len: usize, parent_len: usize) -> bool
     if id_len == 0 {
         return false;
     }
-    if record_type == 0 {
+    if record_type == tables::FH {
         return parent_len == 0;
     }
     parent_len != 0
@@ -149,7 +149,7 @@ fn read_lines_lent(
 {
     let mut numbers = [0u64; 24];
     let mut record = Record {
-        record_type: 9,
+        record_type: tables::NO_TYPE,
         count: 0,
         starts: [0; 24],
         ends: [0; 24],
@@ -169,7 +169,7 @@ fn read_lines_lent(
         }
         let head = read_head(file, start, e, &mut numbers);
         let record_type = head.record_type;
-        if 9 <= record_type {
+        if tables::NO_TYPE <= record_type {
             break 'records;
         }
         let id_end = head.id_end;

@@ -9,7 +9,8 @@ use native.Mathlib.Omega.{arith}
 use lib.ListN.{length}
 use lib.IntN.{ℤ, pos, _+ℤ_, +ℤ-idl, +ℤ-assoc, +ℤ-comm}
 use lib.Dec.{T, eqb, eqb→eq, eqb-refl}
-use Rattle.lists.specs.Selections.{filter, any, all, count, distinct, sum}
+use Rattle.lists.specs.Selections.{filter, any, count, sum}
+use Rattle.lists.specs.InsideSelections.{all, distinct}
 
 -- ---- tests
 

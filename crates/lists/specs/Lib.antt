@@ -3,6 +3,7 @@ pub mod Bytes
 pub mod First
 pub mod InsideColumn
 pub mod InsideFirstSoFar
+pub mod InsideSelections
 pub mod InsideTabulate
 pub mod Selections
 pub mod Written

@@ -1,6 +1,6 @@
 -- Tests and selections over a list, by a test that computes.
 -- Assumes nothing.
-use mathlib.Core.Bool.{Bool, true, false, not, _&&_, _||_, cond}
+use mathlib.Core.Bool.{Bool, false, _||_, cond}
 use mathlib.Core.List.{List, [], _∷_}
 use Prim.Native.Nat.{ℕ, zero, suc}
 use lib.IntN.{ℤ, pos, _+ℤ_}
@@ -15,19 +15,10 @@ module _ {ℓ} {A : Type ℓ} where
   any f [] = false
   any f (x ∷ xs) = f x || any f xs
 
-  abbrev pub all : (A → Bool) → List A → Bool
-  all f [] = true
-  all f (x ∷ xs) = f x && all f xs
-
   -- for how many f holds
   abbrev pub count : (A → Bool) → List A → ℕ
   count f [] = zero
   count f (x ∷ xs) = cond (f x) (suc (count f xs)) (count f xs)
-
-  -- no two of them are the same
-  abbrev pub distinct : (A → A → Bool) → List A → Bool
-  distinct same [] = true
-  distinct same (x ∷ xs) = not (any (same x) xs) && distinct same xs
 
   abbrev pub sum : (A → ℤ) → List A → ℤ
   sum f [] = pos zero

@@ -1,14 +1,12 @@
 -- The conditions of test 18 one by one: where one fails the whole fails, and where all but the last hold the last decides.
 -- A Site Header that chooses a period:
 --     no-header, header-of-another-site, header-without-start, header-without-end, starts-before-header, ends-after-header, chooses-by-end
--- Two periods that share a day: shares-none, shares-by-last
 -- Two periods that overlap: different-sites, first-no-original, second-no-original, second-not-chosen, no-shared-day, overlaps-by-header
 -- Assumes nothing.
 use mathlib.Core.Path.{_≡_, sym, _∙_}
 use mathlib.Core.Bool.{Bool, true, false, _&&_, and-false, false≢true}
-use Prim.Native.Nat.{ℕ, _≤_, _<_, min, max}
+use Prim.Native.Nat.{ℕ, _≤_, _<_}
 use native.Mathlib.Omega.{arith}
-use native.Mathlib.Decide.{decLe}
 use borrow.Author.Tests.{eq-eqb, ne-eqb, le-leb, lt-leb}
 use lib.Dec.{leb}
 use lib.ListN.{length}
@@ -16,7 +14,8 @@ use Rattle.lists.specs.Below.{someBelow}
 use Rattle.lists.proofs.Below.{some-none, none-some}
 use Rattle.tables.specs.Types.{SH}
 use Rattle.tables.specs.Groups.{at}
-use Rattle.periods.specs.Periods.{PeriodColumns, isOriginal, chooses, shareDay, overlaps}
+use Rattle.calendar.specs.Periods.{sharesDay}
+use Rattle.periods.specs.Periods.{PeriodColumns, isOriginal, chooses, daysAt, overlapsAt}
 
 module _ (c : PeriodColumns) where
   module _ (h i : ℕ) where
@@ -51,50 +50,31 @@ module _ (c : PeriodColumns) where
         simp (eq-eqb _ _ header, eq-eqb _ _ site, ne-eqb _ _ start, ne-eqb _ _ end, le-leb _ _ from)
 
   module _ (i j : ℕ) where
-    abbrev later-start : ℕ
-    later-start = max (at (c .starts) i) (at (c .starts) j)
-
-    abbrev earlier-end : ℕ
-    earlier-end = min (at (c .ends) i) (at (c .ends) j)
-
-    pub shares-none : earlier-end < later-start → shareDay c i j ≡ false
-    unfolding shareDay
-    shares-none apart = lt-leb later-start earlier-end apart
-
-    pub shares-by-last : at (c .starts) j ≤ at (c .ends) i → at (c .starts) i ≤ at (c .ends) j → at (c .starts) i ≤ at (c .ends) i
-        → leb (at (c .starts) j) (at (c .ends) j) ≡ shareDay c i j
-    unfolding shareDay
-    shares-by-last one other own = go (decLe (at (c .starts) j) (at (c .ends) j))
-      where
-        go : Dec (at (c .starts) j ≤ at (c .ends) j) → leb (at (c .starts) j) (at (c .ends) j) ≡ shareDay c i j
-        go (yes last) = le-leb (at (c .starts) j) (at (c .ends) j) last ∙ sym (le-leb later-start earlier-end (omega arith))
-        go (no last) = lt-leb (at (c .starts) j) (at (c .ends) j) (omega arith) ∙ sym (lt-leb later-start earlier-end (omega arith))
-
-    pub different-sites : (at (c .sites) i ≡ at (c .sites) j → ⊥) → overlaps c i j ≡ false
-    unfolding overlaps
+    pub different-sites : (at (c .sites) i ≡ at (c .sites) j → ⊥) → overlapsAt c i j ≡ false
+    unfolding overlapsAt
     different-sites differ = simp (ne-eqb _ _ differ, and-false)
 
-    pub first-no-original : isOriginal c i ≡ false → overlaps c i j ≡ false
-    unfolding overlaps
+    pub first-no-original : isOriginal c i ≡ false → overlapsAt c i j ≡ false
+    unfolding overlapsAt
     first-no-original other = simp other
 
-    pub second-no-original : isOriginal c j ≡ false → overlaps c i j ≡ false
-    unfolding overlaps
+    pub second-no-original : isOriginal c j ≡ false → overlapsAt c i j ≡ false
+    unfolding overlapsAt
     second-no-original other = simp (other, and-false)
 
-    pub second-not-chosen : someBelow (λ (h : ℕ). chooses c h j && chooses c h j) (length (c .types)) ≡ false → overlaps c i j ≡ false
-    unfolding overlaps
+    pub second-not-chosen : someBelow (λ (h : ℕ). chooses c h j && chooses c h j) (length (c .types)) ≡ false → overlapsAt c i j ≡ false
+    unfolding overlapsAt
     second-not-chosen none = simp (none-some (λ (h : ℕ). chooses c h i && chooses c h j) (length (c .types)) (λ h l. neither (chooses c h i) (chooses c h j) (some-none (λ (k : ℕ). chooses c k j && chooses c k j) (length (c .types)) none h l)), and-false)
       where
         neither : (a b : Bool) → (b && b) ≡ false → (a && b) ≡ false
         neither a true e = absurd (false≢true (sym e))
         neither a false e = and-false a
 
-    pub no-shared-day : shareDay c i j ≡ false → overlaps c i j ≡ false
-    unfolding overlaps
+    pub no-shared-day : sharesDay (daysAt c i) (daysAt c j) ≡ false → overlapsAt c i j ≡ false
+    unfolding overlapsAt
     no-shared-day apart = simp (apart, and-false)
 
-    pub overlaps-by-header : isOriginal c i ≡ true → isOriginal c j ≡ true → at (c .sites) i ≡ at (c .sites) j → shareDay c i j ≡ true
-        → someBelow (λ (h : ℕ). chooses c h i && chooses c h j) (length (c .types)) ≡ overlaps c i j
-    unfolding overlaps
+    pub overlaps-by-header : isOriginal c i ≡ true → isOriginal c j ≡ true → at (c .sites) i ≡ at (c .sites) j → sharesDay (daysAt c i) (daysAt c j) ≡ true
+        → someBelow (λ (h : ℕ). chooses c h i && chooses c h j) (length (c .types)) ≡ overlapsAt c i j
+    unfolding overlapsAt
     overlaps-by-header first second site shared = simp (first, second, eq-eqb _ _ site, shared)

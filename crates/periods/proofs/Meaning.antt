@@ -17,7 +17,8 @@ use Rattle.lists.proofs.Below.{none-below, none-is-end, some-holds, some-is}
 use Rattle.tables.specs.Types.{SH, TH}
 use Rattle.tables.specs.Groups.{at}
 use Rattle.periods.specs.InsideChosen.{Chooses as ChosenIn}
-use Rattle.periods.specs.Periods.{isReversed, firstReversed, PeriodColumns, isOriginal, chooses, shareDay, overlaps, firstOverlapping}
+use Rattle.calendar.specs.Periods.{sharesDay}
+use Rattle.periods.specs.Periods.{isReversed, firstReversed, PeriodColumns, isOriginal, chooses, daysAt, overlapsAt, firstOverlapping}
 use Rattle.periods.proofs.Conditions.{no-header, header-of-another-site, header-without-start, header-without-end, starts-before-header, ends-after-header, chooses-by-end, different-sites, first-no-original, second-no-original, no-shared-day, overlaps-by-header}
 
 -- ---- a search that finds nothing, and a part of what holds
@@ -116,8 +117,8 @@ module _ (c : PeriodColumns) where
       whole = chooses c h i
 
   module _ (i j : ℕ) where
-    shares-is : (shareDay c i j ≡ true) ↔ ((d : ℕ) × HasDay c i d × HasDay c j d)
-    unfolding shareDay
+    shares-is : (sharesDay (daysAt c i) (daysAt c j) ≡ true) ↔ ((d : ℕ) × HasDay c i d × HasDay c j d)
+    unfolding sharesDay
     shares-is = (
       λ e. let h = leb-true (max (at (c .starts) i) (at (c .starts) j)) (min (at (c .ends) i) (at (c .ends) j)) e in (max (at (c .starts) i) (at (c .starts) j), (omega arith, omega arith), (omega arith, omega arith)),
       λ w. le-leb (max (at (c .starts) i) (at (c .starts) j)) (min (at (c .ends) i) (at (c .ends) j)) (omega arith),
@@ -137,15 +138,15 @@ module _ (c : PeriodColumns) where
           (and-eq-true-iff (chooses c (w .0) i) (chooses c (w .0) j) .1 (chooses-is (w .0) i .1 (w .2), chooses-is (w .0) j .1 (w .3))),
     )
 
-    pub overlaps-is : (overlaps c i j ≡ true) ↔ Overlap c i j
-    unfolding overlaps
+    pub overlaps-is : (overlapsAt c i j ≡ true) ↔ Overlap c i j
+    unfolding overlapsAt
     overlaps-is = (
       λ e. record {
-        first = original-is i .0 (part (isOriginal c i) (overlaps c i j) (first-no-original c i j) e);
-        second = original-is j .0 (part (isOriginal c j) (overlaps c i j) (second-no-original c i j) e);
-        same-site = eqb-true _ _ (part (eqb (at (c .sites) i) (at (c .sites) j)) (overlaps c i j) (λ f. different-sites c i j (eqb-false _ _ f)) e);
-        day = shares-is .0 (part (shareDay c i j) (overlaps c i j) (no-shared-day c i j) e);
-        header = header-is .0 (part (someBelow chooses-both (length (c .types))) (overlaps c i j) (λ f. simp (f, and-false)) e);
+        first = original-is i .0 (part (isOriginal c i) (overlapsAt c i j) (first-no-original c i j) e);
+        second = original-is j .0 (part (isOriginal c j) (overlapsAt c i j) (second-no-original c i j) e);
+        same-site = eqb-true _ _ (part (eqb (at (c .sites) i) (at (c .sites) j)) (overlapsAt c i j) (λ f. different-sites c i j (eqb-false _ _ f)) e);
+        day = shares-is .0 (part (sharesDay (daysAt c i) (daysAt c j)) (overlapsAt c i j) (no-shared-day c i j) e);
+        header = header-is .0 (part (someBelow chooses-both (length (c .types))) (overlapsAt c i j) (λ f. simp (f, and-false)) e);
       },
       λ o.
           sym (overlaps-by-header c i j (original-is i .1 (o .first)) (original-is j .1 (o .second)) (o .same-site) (shares-is .1 (o .day)))
@@ -153,7 +154,7 @@ module _ (c : PeriodColumns) where
     )
 
   abbrev overlaps-earlier : ℕ → Bool
-  overlaps-earlier j = someBelow (λ (i : ℕ). overlaps c i j) j
+  overlaps-earlier j = someBelow (λ (i : ℕ). overlapsAt c i j) j
 
   pub no-shared-days :
       (firstOverlapping c ≡ length (c .types))
@@ -163,7 +164,7 @@ module _ (c : PeriodColumns) where
   no-shared-days = (
     λ e i j h earlier last header first second site chooses-first chooses-second d in-first in-second.
         none-found overlaps-earlier (length (c .types)) .0 e j last
-        (some-is (λ (k : ℕ). overlaps c k j) j i earlier
+        (some-is (λ (k : ℕ). overlapsAt c k j) j i earlier
         (overlaps-is i j .1
         (record {
           first = first;
@@ -174,7 +175,7 @@ module _ (c : PeriodColumns) where
         }))),
     λ apart. none-found overlaps-earlier (length (c .types)) .1
         (λ j last e.
-        let w = some-holds (λ (k : ℕ). overlaps c k j) j e in
+        let w = some-holds (λ (k : ℕ). overlapsAt c k j) j e in
         let o = overlaps-is (w .0) j .0 (w .2) in
         apart (w .0) j (o .header .0) (w .1) last (o .header .1) (o .first) (o .second) (o .same-site) (o .header .2) (o .header .3)
         (o .day .0) (o .day .1) (o .day .2)),

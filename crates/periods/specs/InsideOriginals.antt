@@ -1,4 +1,4 @@
--- The original periods of a file, in columns, and that no two of a site share a day. A day is held as itself and one; 0 says that the field is empty.
+-- The original periods of a file, in columns, and that no two of a site share a day. A day stands as itself and one; 0 says that the field is empty.
 -- Assumes nothing.
 use mathlib.Core.Path.{_≡_}
 use mathlib.Core.List.{List}

@@ -46,13 +46,13 @@ at-point (b ∷ t) h = go (eqb b 46) refl (at-point t)
     go true e rec = rw e (eqb-true b 46 e)
     go false e rec = rw e (rec (let k : pointOf (b ∷ t) ≡ suc (pointOf t) = rw e in omega arith))
 
-module _ (s : List ℕ) (p whole places : ℕ) (inside : p ≤ length s) (d : allDigits (take p s) ≡ true)
-    (longest : (m : ℕ) → m ≤ length s → m ≤ 15 → allDigits (take m s) ≡ true → m ≤ p) (room : whole ≤ 15) (u : isUnsigned whole places (leadingField s) ≡ true) where
+module _ (s : List ℕ) (p whole scale : ℕ) (inside : p ≤ length s) (d : allDigits (take p s) ≡ true)
+    (longest : (m : ℕ) → m ≤ length s → m ≤ 15 → allDigits (take m s) ≡ true → m ≤ p) (room : whole ≤ 15) (u : isUnsigned whole scale (leadingField s) ≡ true) where
   abbrev t : List ℕ
   t = leadingField s
 
-  shape : Unsigned whole places t
-  shape = unsigned-say whole places t u
+  shape : Unsigned whole scale t
+  shape = unsigned-say whole scale t u
 
   point-early : pointOf t ≤ fieldEnd s
   point-early = omega (arith, point-inside t, field-length s)
@@ -89,7 +89,7 @@ module _ (s : List ℕ) (p whole places : ℕ) (inside : p ≤ length s) (d : al
           absurd (other (same-byte s p 44 0 within ∙ ap (λ (j : ℕ). getD s j 0) (sym k) ∙ at))
 
   -- a point stands at p, and the digits after it were read
-  module _ (run : Run) (point : p < length s) (dot : getD s p 0 ≡ 46) (b : AllRead (drop (p + 1) s) run) (few : places ≤ 15) where
+  module _ (run : Run) (point : p < length s) (dot : getD s p 0 ≡ 46) (b : AllRead (drop (p + 1) s) run) (few : scale ≤ 15) where
     past : p + 1 ≤ fieldEnd s
     past = end-more s p early point (λ z. omega arith)
 
@@ -108,19 +108,19 @@ module _ (s : List ℕ) (p whole places : ℕ) (inside : p ≤ length s) (d : al
     after-length : length (placesPart t) ≡ rest
     after-length = rw after (length-take-le rest (drop (p + 1) s) rest-inside)
 
-    shown : isPlaces places (placesPart t) ≡ true
-    shown = second (noPoint t) (isPlaces places (placesPart t)) (lt-leb (length t) (pointOf t) (omega (arith, whole-is, field-length s, past))) (shape .rest)
+    shown : isPlaces scale (placesPart t) ≡ true
+    shown = second (noPoint t) (isPlaces scale (placesPart t)) (lt-leb (length t) (pointOf t) (omega (arith, whole-is, field-length s, past))) (shape .rest)
       where
         second : (x y : Bool) → x ≡ false → x || y ≡ true → y ≡ true
         second true y e o = absurd (let z : _≡_ {A = ℕ} 0 1 = cc in omega arith)
         second false y e o = o
 
-    pub places-are : (1 ≤ run .len) × (run .len ≤ places) × (p + 1 + run .len ≡ fieldEnd s)
+    pub places-are : (1 ≤ run .len) × (run .len ≤ scale) × (p + 1 + run .len ≡ fieldEnd s)
     places-are =
-        let q = both-true (within 1 places (length (placesPart t))) (allDigits (placesPart t)) shown in
-        let c = both-true (leb 1 (length (placesPart t))) (leb (length (placesPart t)) places) (q .0) in
+        let q = both-true (within 1 scale (length (placesPart t))) (allDigits (placesPart t)) shown in
+        let c = both-true (leb 1 (length (placesPart t))) (leb (length (placesPart t)) scale) (q .0) in
         let low = leb-true 1 (length (placesPart t)) (c .0) in
-        let high = leb-true (length (placesPart t)) places (c .1) in
+        let high = leb-true (length (placesPart t)) scale (c .1) in
         let most : rest ≤ run .len = run-longest (drop (p + 1) s) run b rest rest-inside (omega (arith, after-length, high)) (subst (λ (l : List ℕ). allDigits l ≡ true) after (q .1)) in
         let least : run .len ≤ fieldEnd (drop (p + 1) s) = digits-before (drop (p + 1) s) (run .len) (b .read .inside) (b .read .digits) in
         let same : run .len ≡ rest = omega (arith, most, least, end-after s (p + 1) past) in

@@ -38,7 +38,7 @@ pub empty-says : (t : FieldType) → Says t [] 0
 unfolding Says digitsOf dayOf amountOf
 empty-says RecordId = refl
 empty-says (Digits width) = refl
-empty-says (Number precision places) = λ h. without-minus 0
+empty-says (Number precision scale) = λ h. without-minus 0
 empty-says Date = refl
 empty-says DateTime = tt
 empty-says (Char width) = λ h. sym packed-none

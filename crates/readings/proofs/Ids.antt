@@ -22,7 +22,7 @@ use Rattle.calendar.specs.Calendar.{dateDay, numberDay, dayOf}
 use Rattle.fields.specs.declared.FieldType.{FieldType}
 use Rattle.fields.specs.declared.FieldType.the-variants.{RecordId, Digits, Date}
 use Rattle.fields.specs.Fields.{isRead, isDay, fitsFilled, fitsType}
-use Rattle.columns.specs.Columns.{heldNumber, heldDay}
+use Rattle.columns.specs.Columns.{numberInColumn, dayInColumn}
 use Rattle.readings.specs.declared.Run.{Run}
 use Rattle.readings.specs.declared.Reading.{Reading}
 use Rattle.readings.specs.InsideLeadingBytes.{fieldEnd, leadingField, Ends, DigitsRead}
@@ -51,7 +51,7 @@ module _ (s : List ℕ) (t : Run) (run : DigitsRead s t) where
       let are : digitsOf (take (t .len) s) ≡ Value (numberOf (take (t .len) s))
       = digits-are (take (t .len) s) (omega (arith, size, some)) (omega (arith, size, run .few)) (run .digits) in
       field-read RecordId s r (t .len) (t .value + 1) (ends-there s (t .len) end (digits-before s (t .len) (run .inside) (run .digits)))
-      (fits-filled RecordId (take (t .len) s) (ap isRead are)) (ap (λ (v : ℕ). v + 1) (run .value) ∙ sym (ap heldNumber are)) l n
+      (fits-filled RecordId (take (t .len) s) (ap isRead are)) (ap (λ (v : ℕ). v + 1) (run .value) ∙ sym (ap numberInColumn are)) l n
 
 -- ---- what an ID tells
 module _ (s : List ℕ) (id : Reading) (read : FieldRead RecordId s id) where
@@ -60,7 +60,7 @@ module _ (s : List ℕ) (id : Reading) (read : FieldRead RecordId s id) where
   unfolding Says
   id-empty t e =
       let end : fieldEnd s ≡ 0 = sym (read .ends) ∙ e in
-      let none : id .number ≡ 0 = read .says ∙ ap (λ (k : ℕ). heldNumber (digitsOf (take k s))) end ∙ sym (empty-says RecordId) in
+      let none : id .number ≡ 0 = read .says ∙ ap (λ (k : ℕ). numberInColumn (digitsOf (take k s))) end ∙ sym (empty-says RecordId) in
       field-read t s id 0 0 (sym end) (fits-empty t) (empty-says t) e none
 
   module _ (some : 1 ≤ id .len) where
@@ -73,7 +73,7 @@ module _ (s : List ℕ) (id : Reading) (read : FieldRead RecordId s id) where
     id-number = go (digitsOf (leadingField s)) refl is-read
       where
         go : (x : Number) → digitsOf (leadingField s) ≡ x → isRead x ≡ true → (n : ℕ) × (digitsOf (leadingField s) ≡ Value n) × (id .number ≡ n + 1)
-        go (Value n) e q = (n, e, read .says ∙ ap heldNumber e)
+        go (Value n) e q = (n, e, read .says ∙ ap numberInColumn e)
         go Other e q = let z : _≡_ {A = ℕ} 0 1 = cc in absurd (omega arith)
 
     pub fixed-read : (width : ℕ) → id .len ≡ width → FieldRead (Digits width) s id
@@ -86,7 +86,7 @@ module _ (s : List ℕ) (id : Reading) (read : FieldRead RecordId s id) where
     pub date-read : (r : Reading) (d : ℕ) → id .len ≡ 8 → At d ≡ dateDay (id .number - 1) → r .len ≡ 8 → r .number ≡ d + 1 → FieldRead Date s r
     unfolding Says dayOf
     date-read r d e at l m =
-        field-read Date s r (fieldEnd s) (d + 1) refl (fits-filled Date (leadingField s) (ap isDay day)) (sym (ap heldDay day)) (l ∙ sym e ∙ read .ends) m
+        field-read Date s r (fieldEnd s) (d + 1) refl (fits-filled Date (leadingField s) (ap isDay day)) (sym (ap dayInColumn day)) (l ∙ sym e ∙ read .ends) m
       where
         less : id .number - 1 ≡ id-number .0
         less = omega (arith, id-number .2)

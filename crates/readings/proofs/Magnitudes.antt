@@ -50,26 +50,26 @@ point-at (b ∷ t) (suc p) h d e = let q = not-point b (take p t) d in rw (q .0)
 
 -- ---- an amount by its parts
 module _ (t : List ℕ) (d : allDigits t ≡ true) where
-  alone-shape : (whole places : ℕ) → 1 ≤ length t → length t ≤ whole → isUnsigned whole places t ≡ true
-  alone-shape whole places some few =
+  alone-shape : (whole scale : ℕ) → 1 ≤ length t → length t ≤ whole → isUnsigned whole scale t ≡ true
+  alone-shape whole scale some few =
       let e = no-point t d in
-      whole-only whole places t (rw e some) (rw e few) (rw (e, take-all (length t) t (omega arith)) d) (rw e (omega arith))
+      whole-only whole scale t (rw e some) (rw e few) (rw (e, take-all (length t) t (omega arith)) d) (rw e (omega arith))
 
-  alone-units : (places : ℕ) → unitsOf places t ≡ numberOf t * 10 ^ places + 0 * 10 ^ (places - 0)
+  alone-units : (scale : ℕ) → unitsOf scale t ≡ numberOf t * 10 ^ scale + 0 * 10 ^ (scale - 0)
   unfolding unitsOf followedBy
-  alone-units places = rw (no-point t d, take-all (length t) t (omega arith), drop-of-length-le t {i = length t + 1} (omega arith), zero-mul)
+  alone-units scale = rw (no-point t d, take-all (length t) t (omega arith), drop-of-length-le t {i = length t + 1} (omega arith), zero-mul)
 
 module _ (t : List ℕ) (p : ℕ) (h : p < length t) (d : allDigits (take p t) ≡ true) (e : getD t p 0 ≡ 46) where
-  parts-shape : (whole places : ℕ) → 1 ≤ p → p ≤ whole → 1 ≤ length (drop (p + 1) t) → length (drop (p + 1) t) ≤ places → allDigits (drop (p + 1) t) ≡ true
-      → isUnsigned whole places t ≡ true
-  parts-shape whole places some few more room rest =
+  parts-shape : (whole scale : ℕ) → 1 ≤ p → p ≤ whole → 1 ≤ length (drop (p + 1) t) → length (drop (p + 1) t) ≤ scale → allDigits (drop (p + 1) t) ≡ true
+      → isUnsigned whole scale t ≡ true
+  parts-shape whole scale some few more room rest =
       let k = point-at t p h d e in
-      whole-and-places whole places t (rw k some) (rw k few) (rw k d) (rw k h)
+      whole-and-places whole scale t (rw k some) (rw k few) (rw k d) (rw k h)
       ∙ rw k (simp (le-leb _ _ more, le-leb _ _ room, rest))
 
-  parts-units : (places : ℕ) → unitsOf places t ≡ numberOf (take p t) * 10 ^ places + numberOf (drop (p + 1) t) * 10 ^ (places - length (drop (p + 1) t))
+  parts-units : (scale : ℕ) → unitsOf scale t ≡ numberOf (take p t) * 10 ^ scale + numberOf (drop (p + 1) t) * 10 ^ (scale - length (drop (p + 1) t))
   unfolding unitsOf
-  parts-units places = rw (point-at t p h d e)
+  parts-units scale = rw (point-at t p h d e)
 
 -- ---- the whole part w, which stands before p
 module _ (s : List ℕ) (w p whole : ℕ) (a : WholeRead s w p whole) where
@@ -77,15 +77,15 @@ module _ (s : List ℕ) (w p whole : ℕ) (a : WholeRead s w p whole) where
   whole-below = rw (a .value) (lt-of-lt-of-le (run-bound s p (a .inside) (a .digits)) (ten-mono {i = p} {j = whole} (a .few)))
 
   -- it ends the field
-  pub whole-read : (places : ℕ) (r : Reading) → Ends s p → r .len ≡ p → (whole + places ≤ 15 → r .number ≡ w * 10 ^ places + 0 * 10 ^ (places - 0)) → r .number < 10 ^ 15
-      → MagnitudeRead whole places s r
-  whole-read places r e l n small =
+  pub whole-read : (scale : ℕ) (r : Reading) → Ends s p → r .len ≡ p → (whole + scale ≤ 15 → r .number ≡ w * 10 ^ scale + 0 * 10 ^ (scale - 0)) → r .number < 10 ^ 15
+      → MagnitudeRead whole scale s r
+  whole-read scale r e l n small =
       let k : p ≡ fieldEnd s = ends-there s p e (digits-before s p (a .inside) (a .digits)) in
       let len : length (take p s) ≡ p = length-take-le p s (a .inside) in
       record {
         ends = l ∙ k;
-        fits = subst (λ (j : ℕ). isUnsigned whole places (take j s) ≡ true) k (alone-shape (take p s) (a .digits) whole places (rw len (a .some)) (rw len (a .few)));
-        says = λ h. n h ∙ rw (a .value) (sym (alone-units (take p s) (a .digits) places)) ∙ ap (λ (j : ℕ). unitsOf places (take j s)) k;
+        fits = subst (λ (j : ℕ). isUnsigned whole scale (take j s) ≡ true) k (alone-shape (take p s) (a .digits) whole scale (rw len (a .some)) (rw len (a .few)));
+        says = λ h. n h ∙ rw (a .value) (sym (alone-units (take p s) (a .digits) scale)) ∙ ap (λ (j : ℕ). unitsOf scale (take j s)) k;
         small = small;
       }
 
@@ -125,32 +125,32 @@ module _ (s : List ℕ) (w p whole : ℕ) (a : WholeRead s w p whole) where
     field-dot : getD field p 0 ≡ 46
     field-dot = getD-take (p + 1 + run .len) s p 0 (omega arith) ∙ dot
 
-    field-shape : (places : ℕ) → 1 ≤ run .len → run .len ≤ places → isUnsigned whole places field ≡ true
-    field-shape places more room =
-        parts-shape field p field-point field-digits field-dot whole places (a .some) (a .few) (rw after-length more) (rw after-length room) (rw after-point (b .digits))
+    field-shape : (scale : ℕ) → 1 ≤ run .len → run .len ≤ scale → isUnsigned whole scale field ≡ true
+    field-shape scale more room =
+        parts-shape field p field-point field-digits field-dot whole scale (a .some) (a .few) (rw after-length more) (rw after-length room) (rw after-point (b .digits))
 
-    field-units : (places : ℕ) → unitsOf places field ≡ w * 10 ^ places + run .value * 10 ^ (places - run .len)
-    field-units places =
-        parts-units field p field-point field-digits field-dot places
+    field-units : (scale : ℕ) → unitsOf scale field ≡ w * 10 ^ scale + run .value * 10 ^ (scale - run .len)
+    field-units scale =
+        parts-units field p field-point field-digits field-dot scale
         ∙ rw (after-length, after-point, before-point, a .value, b .value)
 
-    pub places-read : (places : ℕ) (r : Reading) → Ends s (p + 1 + run .len) → 1 ≤ run .len → run .len ≤ places → r .len ≡ p + 1 + run .len
-        → (whole + places ≤ 15 → r .number ≡ w * 10 ^ places + run .value * 10 ^ (places - run .len)) → r .number < 10 ^ 15
-        → MagnitudeRead whole places s r
-    places-read places r e more room l n small =
+    pub places-read : (scale : ℕ) (r : Reading) → Ends s (p + 1 + run .len) → 1 ≤ run .len → run .len ≤ scale → r .len ≡ p + 1 + run .len
+        → (whole + scale ≤ 15 → r .number ≡ w * 10 ^ scale + run .value * 10 ^ (scale - run .len)) → r .number < 10 ^ 15
+        → MagnitudeRead whole scale s r
+    places-read scale r e more room l n small =
         let k = places-end e in
         record {
           ends = l ∙ k;
-          fits = subst (λ (j : ℕ). isUnsigned whole places (take j s) ≡ true) k (field-shape places more room);
-          says = λ h. n h ∙ sym (field-units places) ∙ ap (λ (j : ℕ). unitsOf places (take j s)) k;
+          fits = subst (λ (j : ℕ). isUnsigned whole scale (take j s) ≡ true) k (field-shape scale more room);
+          says = λ h. n h ∙ sym (field-units scale) ∙ ap (λ (j : ℕ). unitsOf scale (take j s)) k;
           small = small;
         }
 
 -- ---- an amount after its minus
-pub minus-read : (whole places : ℕ) (s : List ℕ) (size r : Reading) → 0 < length s → getD s 0 0 ≡ 45 → MagnitudeRead whole places (drop 1 s) size
-    → r .len ≡ size .len + 1 → r .number ≡ size .number * 2 + 1 → NegativeRead whole places s r
-minus-read whole places [] size r h m a l n = absurd (omega arith)
-minus-read whole places (b ∷ s) size r h m a l n =
+pub minus-read : (whole scale : ℕ) (s : List ℕ) (size r : Reading) → 0 < length s → getD s 0 0 ≡ 45 → MagnitudeRead whole scale (drop 1 s) size
+    → r .len ≡ size .len + 1 → r .number ≡ size .number * 2 + 1 → NegativeRead whole scale s r
+minus-read whole scale [] size r h m a l n = absurd (omega arith)
+minus-read whole scale (b ∷ s) size r h m a l n =
     let e : fieldEnd (b ∷ s) ≡ suc (fieldEnd s) = end-first b s (λ z. omega arith) in
     record {
       ends = omega (arith, a .ends);

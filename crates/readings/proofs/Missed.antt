@@ -103,18 +103,18 @@ module _ (f : List ℕ) where
   date-day e h = ⊎-elim (λ none. absurd (omega arith)) (λ some. let t = date-told some in (t .1, t .2, t .3)) (fits-or Date f e)
 
   -- ---- numbers
-  pub number-not : (precision places : ℕ) → precision ≤ places → 0 < length f → fitsType (Number precision places) f ≡ true → ⊥
+  pub number-not : (precision scale : ℕ) → precision ≤ scale → 0 < length f → fitsType (Number precision scale) f ≡ true → ⊥
   unfolding isNumber
-  number-not precision places wide h e =
+  number-not precision scale wide h e =
       ⊎-elim (λ none. absurd (omega arith))
-      (λ some. let u = unsigned-say (precision - places) places (unsigned f) some in omega (arith, u .some, u .few))
-      (fits-or (Number precision places) f e)
+      (λ some. let u = unsigned-say (precision - scale) scale (unsigned f) some in omega (arith, u .some, u .few))
+      (fits-or (Number precision scale) f e)
 
-  pub minus-not : (precision places : ℕ) → 0 < length f → getD f 0 0 ≡ 45 → isUnsigned (precision - places) places (drop 1 f) ≡ false → fitsType (Number precision places) f ≡ false
-  minus-not precision places h m e = filled-not (Number precision places) f h (number-minus precision places f h m ∙ e)
+  pub minus-not : (precision scale : ℕ) → 0 < length f → getD f 0 0 ≡ 45 → isUnsigned (precision - scale) scale (drop 1 f) ≡ false → fitsType (Number precision scale) f ≡ false
+  minus-not precision scale h m e = filled-not (Number precision scale) f h (number-minus precision scale f h m ∙ e)
 
-  pub plain-not : (precision places : ℕ) → 0 < length f → (getD f 0 0 ≡ 45 → ⊥) → isUnsigned (precision - places) places f ≡ false → fitsType (Number precision places) f ≡ false
-  plain-not precision places h m e = filled-not (Number precision places) f h (number-plain precision places f m ∙ e)
+  pub plain-not : (precision scale : ℕ) → 0 < length f → (getD f 0 0 ≡ 45 → ⊥) → isUnsigned (precision - scale) scale f ≡ false → fitsType (Number precision scale) f ≡ false
+  plain-not precision scale h m e = filled-not (Number precision scale) f h (number-plain precision scale f m ∙ e)
 
   -- ---- texts
   pub char-length : (width : ℕ) → fitsType (Char width) f ≡ true → (length f ≡ 0) ⊎ (length f ≡ width)

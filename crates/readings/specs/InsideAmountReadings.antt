@@ -17,10 +17,10 @@ unfoldable pub signedOf : ℕ → ℤ
 signedOf n = signed (eqb (n % 2) 1) (n / 2)
 
 -- what is read of an amount without its sign at the start of s: `whole` digits at most, then optionally a point and up to `places` digits
-pub record MagnitudeRead (whole places : ℕ) (s : List ℕ) (r : Reading) : Type 0 where
+pub record MagnitudeRead (whole scale : ℕ) (s : List ℕ) (r : Reading) : Type 0 where
   pub ends : r .len ≡ fieldEnd s
-  pub fits : isUnsigned whole places (leadingField s) ≡ true
-  pub says : whole + places ≤ 15 → r .number ≡ unitsOf places (leadingField s)
+  pub fits : isUnsigned whole scale (leadingField s) ≡ true
+  pub says : whole + scale ≤ 15 → r .number ≡ unitsOf scale (leadingField s)
   pub small : r .number < 10 ^ 15
 
 -- the whole part w of an amount stands before p
@@ -33,17 +33,17 @@ pub record WholeRead (s : List ℕ) (w p whole : ℕ) : Type 0 where
   pub longest : (m : ℕ) → m ≤ length s → m ≤ 15 → allDigits (take m s) ≡ true → m ≤ p
 
 -- what is read of an amount with a minus at the start of s
-pub record NegativeRead (whole places : ℕ) (s : List ℕ) (r : Reading) : Type 0 where
+pub record NegativeRead (whole scale : ℕ) (s : List ℕ) (r : Reading) : Type 0 where
   pub ends : r .len ≡ fieldEnd s
-  pub fits : isUnsigned whole places (drop 1 (leadingField s)) ≡ true
-  pub says : whole + places ≤ 15 → r .number ≡ unitsOf places (drop 1 (leadingField s)) * 2 + 1
+  pub fits : isUnsigned whole scale (drop 1 (leadingField s)) ≡ true
+  pub says : whole + scale ≤ 15 → r .number ≡ unitsOf scale (drop 1 (leadingField s)) * 2 + 1
 
 -- whether an amount without its sign stands at the start of s, and then what is read of it
 abbrev pub MagnitudeTold : ℕ → ℕ → List ℕ → Reading → Type 0
-MagnitudeTold whole places s r =
-    (r .fits ≡ true → MagnitudeRead whole places s r) × (r .fits ≡ false → isUnsigned whole places (leadingField s) ≡ false)
+MagnitudeTold whole scale s r =
+    (r .fits ≡ true → MagnitudeRead whole scale s r) × (r .fits ≡ false → isUnsigned whole scale (leadingField s) ≡ false)
 
 -- the same of one with a minus
 abbrev pub NegativeTold : ℕ → ℕ → List ℕ → Reading → Type 0
-NegativeTold whole places s r =
-    (r .fits ≡ true → NegativeRead whole places s r) × (r .fits ≡ false → isUnsigned whole places (drop 1 (leadingField s)) ≡ false)
+NegativeTold whole scale s r =
+    (r .fits ≡ true → NegativeRead whole scale s r) × (r .fits ≡ false → isUnsigned whole scale (drop 1 (leadingField s)) ≡ false)

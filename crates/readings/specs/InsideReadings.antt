@@ -11,17 +11,17 @@ use Rattle.amounts.specs.Amounts.{amountOf, units}
 use Rattle.fields.specs.declared.FieldType.{FieldType}
 use Rattle.fields.specs.declared.FieldType.the-variants.{RecordId, Digits, Number, Date, DateTime, Char, Varchar}
 use Rattle.fields.specs.Fields.{fitsType}
-use Rattle.columns.specs.Columns.{heldNumber, heldDay}
+use Rattle.columns.specs.Columns.{numberInColumn, dayInColumn}
 use Rattle.readings.specs.declared.Reading.{Reading}
 use Rattle.readings.specs.InsideLeadingBytes.{fieldEnd, leadingField, packed}
 use Rattle.readings.specs.InsideAmountReadings.{signedOf}
 
 -- the number n says what stands in the field f of a type. A number that no test reads says nothing.
 unfoldable pub Says : FieldType → List ℕ → ℕ → Type 0
-Says RecordId f n = n ≡ heldNumber (digitsOf f)
-Says (Digits width) f n = n ≡ heldNumber (digitsOf f)
-Says (Number precision places) f n = precision ≤ 15 → signedOf n ≡ units (amountOf precision places f)
-Says Date f n = n ≡ heldDay (dayOf f)
+Says RecordId f n = n ≡ numberInColumn (digitsOf f)
+Says (Digits width) f n = n ≡ numberInColumn (digitsOf f)
+Says (Number precision scale) f n = precision ≤ 15 → signedOf n ≡ units (amountOf precision scale f)
+Says Date f n = n ≡ dayInColumn (dayOf f)
 Says DateTime f n = Unit {0}
 Says (Char width) f n = width ≤ 4 → n ≡ packed f
 Says (Varchar width) f n = width ≤ 4 → n ≡ packed f
@@ -40,7 +40,7 @@ FieldTold t s r = (r .fits ≡ true → FieldRead t s r) × (r .fits ≡ false �
 unfoldable pub isNarrow : FieldType → Bool
 isNarrow RecordId = true
 isNarrow (Digits width) = true
-isNarrow (Number precision places) = leb (precision - places) 15 && leb places 15
+isNarrow (Number precision scale) = leb (precision - scale) 15 && leb scale 15
 isNarrow Date = true
 isNarrow DateTime = true
 isNarrow (Char width) = leb width 4

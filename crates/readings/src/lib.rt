@@ -160,27 +160,27 @@ pub fn reads(len: usize, number: u64) -> Reading
 }
 
 // The units of an amount: its whole part, and the number that the q digits after its point write. Where it is too wide for an amount, 0.
-fn scaled(w: u64, f: u64, q: usize, whole: usize, places: usize) -> u64
-    requires { ⌜ (w < 10 ^ whole) × (f < 10 ^ q) × (q ≤ places) ⌝ }
-    ensures { λ r. ⌜ (whole + places ≤ 15 → r ≡ w * 10 ^ places + f * 10 ^ (places - q)) × (r < 10 ^ 15) ⌝ }
+fn scaled(w: u64, f: u64, q: usize, whole: usize, scale: usize) -> u64
+    requires { ⌜ (w < 10 ^ whole) × (f < 10 ^ q) × (q ≤ scale) ⌝ }
+    ensures { λ r. ⌜ (whole + scale ≤ 15 → r ≡ w * 10 ^ scale + f * 10 ^ (scale - q)) × (r < 10 ^ 15) ⌝ }
 {
     if 15 < whole {
         return 0;
     }
-    if 15 - whole < places {
+    if 15 - whole < scale {
         return 0;
     }
-    w * amounts::ten_to(places) + f * amounts::ten_to(places - q)
+    w * amounts::ten_to(scale) + f * amounts::ten_to(scale - q)
 }
 
 // The whole part of an amount, which ends the field, or the whole part and what stands after the point at p.
-fn read_places(s: &[u8], w: u64, p: usize, whole: usize, places: usize) -> Reading
-    requires { ⌜ WholeRead (now s) w p whole × (whole ≤ 15) × (places ≤ 15) ⌝ }
-    ensures { λ r. ⌜ MagnitudeTold whole places (now (s .entry)) r ⌝ }
+fn read_places(s: &[u8], w: u64, p: usize, whole: usize, scale: usize) -> Reading
+    requires { ⌜ WholeRead (now s) w p whole × (whole ≤ 15) × (scale ≤ 15) ⌝ }
+    ensures { λ r. ⌜ MagnitudeTold whole scale (now (s .entry)) r ⌝ }
 {
     let next = next_byte(s, p);
     if next == 44 {
-        return reads(p, scaled(w, 0, 0, whole, places));
+        return reads(p, scaled(w, 0, 0, whole, scale));
     }
     if next != 46 {
         return misses();
@@ -190,19 +190,19 @@ fn read_places(s: &[u8], w: u64, p: usize, whole: usize, places: usize) -> Readi
     if q < 1 {
         return misses();
     }
-    if places < q {
+    if scale < q {
         return misses();
     }
     if !ends_at(s, p + 1 + q) {
         return misses();
     }
-    reads(p + 1 + q, scaled(w, run.value, q, whole, places))
+    reads(p + 1 + q, scaled(w, run.value, q, whole, scale))
 }
 
 // An amount without its sign.
-pub fn read_magnitude(s: &[u8], whole: usize, places: usize) -> Reading
-    requires { ⌜ (whole ≤ 15) × (places ≤ 15) ⌝ }
-    ensures { λ r. ⌜ MagnitudeTold whole places (now (s .entry)) r ⌝ }
+pub fn read_magnitude(s: &[u8], whole: usize, scale: usize) -> Reading
+    requires { ⌜ (whole ≤ 15) × (scale ≤ 15) ⌝ }
+    ensures { λ r. ⌜ MagnitudeTold whole scale (now (s .entry)) r ⌝ }
 {
     let run = leading_digits(s);
     let p = run.len;
@@ -212,15 +212,15 @@ pub fn read_magnitude(s: &[u8], whole: usize, places: usize) -> Reading
     if whole < p {
         return misses();
     }
-    read_places(s, run.value, p, whole, places)
+    read_places(s, run.value, p, whole, scale)
 }
 
 // An amount after its minus.
-pub fn read_negative(s: &[u8], whole: usize, places: usize) -> Reading
-    requires { ⌜ (0 < length (now s)) × (getD (now s) 0 0 ≡ 45) × (whole ≤ 15) × (places ≤ 15) ⌝ }
-    ensures { λ r. ⌜ NegativeTold whole places (now (s .entry)) r ⌝ }
+pub fn read_negative(s: &[u8], whole: usize, scale: usize) -> Reading
+    requires { ⌜ (0 < length (now s)) × (getD (now s) 0 0 ≡ 45) × (whole ≤ 15) × (scale ≤ 15) ⌝ }
+    ensures { λ r. ⌜ NegativeTold whole scale (now (s .entry)) r ⌝ }
 {
-    let size = read_magnitude(&s[1..], whole, places);
+    let size = read_magnitude(&s[1..], whole, scale);
     let fits = size.fits;
     let len = size.len;
     let number = size.number;
@@ -319,21 +319,21 @@ fn read_date_time(days: &[u64], s: &[u8]) -> Reading
     misses()
 }
 
-fn read_number(s: &[u8], precision: usize, places: usize) -> Reading
-    requires { ⌜ (precision - places ≤ 15) × (places ≤ 15) ⌝ }
-    ensures { λ r. ⌜ FieldTold (Number precision places) (now (s .entry)) r ⌝ }
+fn read_number(s: &[u8], precision: usize, scale: usize) -> Reading
+    requires { ⌜ (precision - scale ≤ 15) × (scale ≤ 15) ⌝ }
+    ensures { λ r. ⌜ FieldTold (Number precision scale) (now (s .entry)) r ⌝ }
 {
     let first = next_byte(s, 0);
     if first == 44 {
         return reads(0, 0);
     }
-    if precision <= places {
+    if precision <= scale {
         return misses();
     }
     if first == 45 {
-        return read_negative(s, precision - places, places);
+        return read_negative(s, precision - scale, scale);
     }
-    let size = read_magnitude(s, precision - places, places);
+    let size = read_magnitude(s, precision - scale, scale);
     let fits = size.fits;
     let len = size.len;
     let number = size.number;

@@ -97,7 +97,7 @@ pub fn record_at(file: &[u8], start: usize, end: usize) -> Record
         a = e + 1;
     }
     Record {
-        record_type: 9,
+        record_type: tables::NO_TYPE,
         count: 0,
         starts,
         ends,

@@ -10,7 +10,7 @@ use Rattle.digits.specs.Digits.{allDigits}
 use Rattle.records.specs.Text.{linesOf}
 use Rattle.tables.specs.Types.{SH, TH, DU, CH, OC, FT}
 use Rattle.columns.specs.Columns.{numberIn, chargeIn, usageIn, recordType, recordId, parentId, site, startDay, endDay, cancel}
-use Rattle.tables.specs.Groups.{parentPlaces, picked, places, ones}
+use Rattle.tables.specs.Groups.{parentPlaces, picked, allPlaces, ones}
 use Rattle.format.specs.Format.{lineAt, firstUnformatted, firstUnfit, firstMisplaced, firstUnfilled, firstMiscoded}
 use Rattle.identity.specs.Identity.{firstRepeated, firstUnlike}
 use Rattle.headers.specs.Headers.{isOurs, isListed, countsRecords}
@@ -41,7 +41,7 @@ abbrev pub parentsOf : ℕ → ℕ → List (List ℕ) → List ℕ
 parentsOf low high lines = picked (types lines) (parentPlaces (types lines)) low high
 
 abbrev pub placesOf : ℕ → ℕ → List (List ℕ) → List ℕ
-placesOf low high lines = picked (types lines) (places (length lines)) low high
+placesOf low high lines = picked (types lines) (allPlaces (length lines)) low high
 
 abbrev pub onesOf : ℕ → ℕ → List (List ℕ) → List ℕ
 onesOf low high lines = picked (types lines) (ones (length lines)) low high

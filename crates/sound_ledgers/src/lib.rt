@@ -16,6 +16,11 @@ ghost use Rattle.soundness.specs.InsideRoom.{LedgerRoom};
 ghost use Rattle.sound_ledgers.specs.InsideColumns.{SoundRoom};
 use entries::Entry;
 
+// The states, as a column of bytes has them.
+const CANCELLED: u8 = 3;
+
+const CANCEL: u8 = 4;
+
 // Puts the numbers of the first and the last day of an entry after those gathered so far, of which there are `count`, and counts it where it is a live period.
 // Only the count depends on the entry: a branch around the stores would be hard to foresee.
 pub fn gather(e: Entry, count: usize, firsts: &mut [u64], lasts: &mut [u64]) -> usize
@@ -126,7 +131,7 @@ fn mark_cancelled(
 {
     let mut i: usize = 0;
     while i < used {
-        if states[i] == 4 {
+        if states[i] == CANCEL {
             let e = soundness::entry_in_use(words, amounts, used, i);
             let j = cancelled_place(words, amounts, used, keys, size, tree, i, e);
             if used <= j {
@@ -150,7 +155,7 @@ fn all_marked(states: &[u8], used: usize, marks: &[u16]) -> bool
 {
     let mut j: usize = 0;
     while j < used {
-        if (states[j] == 3) & (marks[j] == 0) {
+        if (states[j] == CANCELLED) & (marks[j] == 0) {
             return false;
         }
         j += 1;

@@ -66,7 +66,7 @@ pub fn is_within(low: u64, high: u64, n: u64) -> bool
 fn state_fits(e: Entry) -> bool
     ensures { λ r. ⌜ r ≡ cond (eqb (e .kind) 1) (eqb (e .state) 0) (not (eqb (e .state) 0)) ⌝ }
 {
-    if e.kind == 1 {
+    if e.kind == entries::FILE {
         return e.state == 0;
     }
     e.state != 0
@@ -78,7 +78,7 @@ fn ranges_fit(e: Entry) -> bool
 {
     is_within(1, 2, e.commodity)
         & is_within(1, 3, e.kind)
-        & (e.state <= 4)
+        & (e.state <= entries::CANCEL)
         & (e.start <= 36524)
         & (e.end <= 36524)
         & state_fits(e)
@@ -88,21 +88,21 @@ fn ranges_fit(e: Entry) -> bool
 fn period_lacks_fit(e: Entry) -> bool
     ensures { λ r. ⌜ r ≡ (isPeriod e || (eqb (e .start) 0 && eqb (e .end) 0 && isZero (e .usage))) ⌝ }
 {
-    (e.kind == 2) | ((e.start == 0) & (e.end == 0) & (amounts::size(e.usage) == 0))
+    (e.kind == entries::PERIOD) | ((e.start == 0) & (e.end == 0) & (amounts::size(e.usage) == 0))
 }
 
 // A file has no site.
 fn site_lack_fits(e: Entry) -> bool
     ensures { λ r. ⌜ r ≡ (not (eqb (e .kind) 1) || eqb (e .site) 0) ⌝ }
 {
-    (e.kind != 1) | (e.site == 0)
+    (e.kind != entries::FILE) | (e.site == 0)
 }
 
 // "what a kind lacks is 0, as is the cancelled ID outside state 4"
 fn lacks_fit(e: Entry) -> bool
     ensures { λ r. ⌜ r ≡ lacksFit e ⌝ }
 {
-    period_lacks_fit(e) & site_lack_fits(e) & ((e.state == 4) | (e.cancels == 0))
+    period_lacks_fit(e) & site_lack_fits(e) & ((e.state == entries::CANCEL) | (e.cancels == 0))
 }
 
 // The sentences that look at one entry. They are joined with no branch between them, as what an entry holds is hard to foresee.
@@ -115,10 +115,10 @@ pub fn entry_fits(e: Entry) -> bool
 pub fn is_live_period(e: Entry) -> bool
     ensures { λ r. ⌜ r ≡ isLivePeriod e ⌝ }
 {
-    if e.state != 1 {
+    if e.state != entries::LIVE {
         return false;
     }
-    e.kind == 2
+    e.kind == entries::PERIOD
 }
 
 // Alike in what test 39 compares, but for the Record ID.
@@ -147,7 +147,7 @@ pub fn has_same_subject(a: Entry, b: Entry) -> bool
 pub fn is_named(cancel: Entry, e: Entry) -> bool
     ensures { λ r. ⌜ r ≡ isNamed cancel e ⌝ }
 {
-    if e.state != 3 {
+    if e.state != entries::CANCELLED {
         return false;
     }
     if e.id != cancel.cancels {

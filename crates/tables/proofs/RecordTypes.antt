@@ -21,7 +21,7 @@ use Rattle.lists.specs.Below.{nearestBelow}
 use Rattle.lists.proofs.Below.{nearest-more, nearest-kept, nearest-at-most, nearest-holds, nearest-none}
 use Rattle.lists.proofs.Table.{every-at}
 use Rattle.tables.specs.Types.{parentType, parentTypes}
-use Rattle.tables.specs.Groups.{at, ofType, parentPlace, tabled, parentPlaces, pickedAt, picked, places, ones}
+use Rattle.tables.specs.Groups.{at, ofType, parentPlace, tabled, parentPlaces, pickedAt, picked, allPlaces, ones}
 
 -- ---- f at 0 to n - 1
 module _ (f : ℕ → ℕ) where
@@ -170,8 +170,8 @@ module _ (types : List ℕ) where
     picked-at i h = tabled-at (pickedAt types values low high) (length types) i h
 
 module _ (n : ℕ) where
-  pub place-at : (i : ℕ) → i < n → getD (places n) i 0 ≡ i + 1
-  unfolding places
+  pub place-at : (i : ℕ) → i < n → getD (allPlaces n) i 0 ≡ i + 1
+  unfolding allPlaces
   place-at i h = tabled-at (λ (i : ℕ). i + 1) n i h
 
   pub one-at : (i : ℕ) → i < n → getD (ones n) i 0 ≡ 1

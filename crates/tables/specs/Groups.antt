@@ -34,8 +34,8 @@ unfoldable pub picked : List ℕ → List ℕ → ℕ → ℕ → List ℕ
 picked types values low high = tabled (pickedAt types values low high) 0 (length types)
 
 -- each record's own place and one
-unfoldable pub places : ℕ → List ℕ
-places n = tabled (λ (i : ℕ). i + 1) 0 n
+unfoldable pub allPlaces : ℕ → List ℕ
+allPlaces n = tabled (λ (i : ℕ). i + 1) 0 n
 
 -- 1 for each record
 unfoldable pub ones : ℕ → List ℕ

@@ -14,7 +14,7 @@ code kind first second = kind * 65536 + first * 256 + second
 abbrev pub codeOf : FieldType → ℕ
 codeOf RecordId = code 0 0 0
 codeOf (Digits n) = code 1 n 0
-codeOf (Number precision places) = code 2 precision places
+codeOf (Number precision scale) = code 2 precision scale
 codeOf Date = code 3 0 0
 codeOf DateTime = code 4 0 0
 codeOf (Char n) = code 5 n 0

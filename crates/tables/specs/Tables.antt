@@ -31,47 +31,59 @@ distributorId = Digits 4
 abbrev pub zoneId : FieldType
 zoneId = Digits 4
 
--- Table 4-2
+-- Table 4-2, FH: 1 Record ID, 2 Parent ID, 3 Record Type, 4 Retailer ID, 5 Sender ID, 6 Commodity Code, 7 Date Created, 8 Billing Cycle, 9 Tariff Bill
+-- File Reference ID
 abbrev pub fileHeader : List Field
 fileHeader =
     mandatory RecordId ∷ mandatory RecordId ∷ mandatory (Char 2) ∷ mandatory retailerId ∷ mandatory distributorId ∷ mandatory (Char 2)
     ∷ mandatory DateTime ∷ other (Varchar 9) ∷ other RecordId ∷ []
 
--- Table 4-3
+-- Table 4-3, SH: 1 Record ID, 2 Parent ID, 3 Record Type, 4 Site ID, 5 Current Billing Period Start Date, 6 Current Billing Period End Date, 7
+-- Distributor ID, 8 Zone ID, 9 Municipality ID, 10 REA Code, 11 Billing Cycle, 12 Usage Total, 13 Usage UOM, 14 Charge Total, 15 Additional Site
+-- Information, 16 Site Production Reason Code, 17 As-at Date, 18 Parent Site ID
 abbrev pub siteHeader : List Field
 siteHeader =
     mandatory RecordId ∷ mandatory RecordId ∷ mandatory (Char 2) ∷ mandatory siteId ∷ other Date ∷ other Date
     ∷ mandatory distributorId ∷ mandatory zoneId ∷ mandatory (Varchar 4) ∷ other (Char 4) ∷ mandatory (Varchar 9) ∷ mandatory (Number 14 4)
     ∷ mandatory (Varchar 4) ∷ mandatory (Number 11 2) ∷ other (Varchar 50) ∷ mandatory (Number 4 0) ∷ other DateTime ∷ other siteId ∷ []
 
--- Table 4-4
+-- Table 4-4, TH: 1 Record ID, 2 Parent ID, 3 Record Type, 4 Site ID, 5 Tariff Bill Period Start Date, 6 Tariff Bill Period End Date, 7 Cancel Indicator,
+-- 8 Tariff Bill Period Reference ID, 9 Cancel Reason Code, 10 Tariff Rate Code, 11 Site Status Code, 12 Usage Total, 13 Usage UOM, 14 Charge Total
 abbrev pub periodHeader : List Field
 periodHeader =
     mandatory RecordId ∷ mandatory RecordId ∷ mandatory (Char 2) ∷ mandatory siteId ∷ mandatory Date ∷ mandatory Date
     ∷ mandatory (Char 1) ∷ other RecordId ∷ other (Number 4 0) ∷ mandatory (Varchar 9) ∷ mandatory (Char 1) ∷ mandatory (Number 14 4)
     ∷ mandatory (Varchar 4) ∷ mandatory (Number 11 2) ∷ []
 
--- Table 4-5
+-- Table 4-5, DU: 1 Record ID, 2 Parent ID, 3 Record Type, 4 Site ID, 5 Usage Period Start Date, 6 Usage Period End Date, 7 Cancel Indicator, 8 Meter
+-- Type Code, 9 Meter Number, 10 Number of Dials, 11 From Reading, 12 From Reading Code, 13 To Reading, 14 To Reading Code, 15 Billing Multiplier, 16
+-- Usage Amount, 17 Usage UOM
 abbrev pub usageDeterminant : List Field
 usageDeterminant =
     mandatory RecordId ∷ mandatory RecordId ∷ mandatory (Char 2) ∷ mandatory siteId ∷ mandatory Date ∷ mandatory Date
     ∷ mandatory (Char 1) ∷ mandatory (Char 1) ∷ other (Varchar 20) ∷ other (Number 3 0) ∷ other (Number 14 4) ∷ other (Char 1)
     ∷ other (Number 14 4) ∷ other (Char 1) ∷ other (Number 14 9) ∷ mandatory (Number 13 4) ∷ mandatory (Varchar 4) ∷ []
 
--- Table 4-6
+-- Table 4-6, DD: 1 Record ID, 2 Parent ID, 3 Record Type, 4 Site ID, 5 Demand Period Start Date, 6 Demand Period End Date, 7 Cancel Indicator, 8 Demand
+-- Type Code, 9 Demand Value, 10 Demand UOM, 11 Meter Number, 12 Ratchet Date Time, 13 Ratchet Period Months, 14 Power Factor, 15 Demand Contract End
+-- Date
 abbrev pub demandDeterminant : List Field
 demandDeterminant =
     mandatory RecordId ∷ mandatory RecordId ∷ mandatory (Char 2) ∷ mandatory siteId ∷ mandatory Date ∷ mandatory Date
     ∷ mandatory (Char 1) ∷ mandatory (Number 4 0) ∷ mandatory (Number 10 4) ∷ mandatory (Varchar 4) ∷ other (Varchar 20) ∷ other DateTime
     ∷ other (Number 2 0) ∷ other (Number 7 6) ∷ other Date ∷ []
 
--- Table 4-7
+-- Table 4-7, DM: 1 Record ID, 2 Parent ID, 3 Record Type, 4 Site ID, 5 Miscellaneous Determinant Period Start Date, 6 Miscellaneous Determinant Period
+-- End Date, 7 Cancel Indicator, 8 Unit Quantity, 9 Unit Quantity UOM, 10 Miscellaneous Determinant Code
 abbrev pub miscellaneousDeterminant : List Field
 miscellaneousDeterminant =
     mandatory RecordId ∷ mandatory RecordId ∷ mandatory (Char 2) ∷ mandatory siteId ∷ mandatory Date ∷ mandatory Date
     ∷ mandatory (Char 1) ∷ mandatory (Number 12 4) ∷ mandatory (Varchar 7) ∷ mandatory (Varchar 4) ∷ []
 
--- Table 4-8
+-- Table 4-8, CH: 1 Record ID, 2 Parent ID, 3 Record Type, 4 Site ID, 5 Charge Period Start Date, 6 Charge Period End Date, 7 Cancel Indicator, 8 Tariff
+-- Cross Reference Code, 9 Component Category Code, 10 Component Basis Code, 11 Component Type Code, 12 Component Step Number, 13 Component Billed
+-- Quantity, 14 Component Billed Quantity UOM, 15 Time Calculation Type, 16 Time Factor, 17 Component Unit Price, 18 Charge Amount, 19 GST Exemption
+-- Indicator
 abbrev pub tariffCharge : List Field
 tariffCharge =
     mandatory RecordId ∷ mandatory RecordId ∷ mandatory (Char 2) ∷ mandatory siteId ∷ mandatory Date ∷ mandatory Date
@@ -79,13 +91,14 @@ tariffCharge =
     ∷ mandatory (Number 15 6) ∷ mandatory (Varchar 7) ∷ mandatory (Char 1) ∷ mandatory (Number 9 6) ∷ mandatory (Number 19 12) ∷ mandatory (Number 11 2)
     ∷ mandatory (Char 1) ∷ []
 
--- Table 4-9
+-- Table 4-9, OC: 1 Record ID, 2 Parent ID, 3 Record Type, 4 Site ID, 5 Charge Date, 6 Cancel Indicator, 7 One-Time Charge Reference ID, 8 Cancel Reason
+-- Code, 9 One-Time Charge Code, 10 Charge Amount, 11 GST Exemption Indicator
 abbrev pub oneTimeCharge : List Field
 oneTimeCharge =
     mandatory RecordId ∷ mandatory RecordId ∷ mandatory (Char 2) ∷ mandatory siteId ∷ mandatory Date ∷ mandatory (Char 1)
     ∷ other RecordId ∷ other (Number 4 0) ∷ mandatory (Varchar 4) ∷ mandatory (Number 11 2) ∷ mandatory (Char 1) ∷ []
 
--- Table 4-10
+-- Table 4-10, FT: 1 Record ID, 2 Parent ID, 3 Record Type, 4 File Record Count, 5 Charge Total
 abbrev pub fileTrailer : List Field
 fileTrailer = mandatory RecordId ∷ mandatory RecordId ∷ mandatory (Char 2) ∷ mandatory (Number 9 0) ∷ mandatory (Number 11 2) ∷ []
 

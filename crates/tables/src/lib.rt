@@ -12,6 +12,28 @@ ghost use Rattle.tables.specs.Tables.{fieldCount, markRows};
 ghost use Rattle.tables.specs.InsideRows.{joined};
 ghost use Rattle.tables.specs.InsideCodes.{codeRows};
 
+// The record types.
+pub const FH: u64 = 0;
+
+pub const SH: u64 = 1;
+
+pub const TH: u64 = 2;
+
+pub const DU: u64 = 3;
+
+pub const DD: u64 = 4;
+
+pub const DM: u64 = 5;
+
+pub const CH: u64 = 6;
+
+pub const OC: u64 = 7;
+
+pub const FT: u64 = 8;
+
+// The type of a line whose field 3 names none.
+pub const NO_TYPE: u64 = 9;
+
 // Whether the type of the column may follow the type of the row.
 const FOLLOWS: [[bool; 9]; 9] = [
     // after FH
@@ -49,19 +71,19 @@ pub fn type_named(s: &[u8]) -> u64
     ensures { λ r. ⌜ r ≡ typeNamed (now (s .entry)) ⌝ }
 {
     if s.len() != 2 {
-        return 9;
+        return NO_TYPE;
     }
     match lists::wide(s[0]) * 256 + lists::wide(s[1]) {
-        17992 => 0,
-        21320 => 1,
-        21576 => 2,
-        17493 => 3,
-        17476 => 4,
-        17485 => 5,
-        17224 => 6,
-        20291 => 7,
-        18004 => 8,
-        _ => 9,
+        17992 => FH,
+        21320 => SH,
+        21576 => TH,
+        17493 => DU,
+        17476 => DD,
+        17485 => DM,
+        17224 => CH,
+        20291 => OC,
+        18004 => FT,
+        _ => NO_TYPE,
     }
 }
 
@@ -91,16 +113,16 @@ pub fn parent_type(record_type: u64) -> u64
     ensures { λ r. ⌜ r ≡ parentType record_type ⌝ }
 {
     match record_type {
-        0 => 9,
-        1 => 0,
-        2 => 1,
-        3 => 2,
-        4 => 2,
-        5 => 2,
-        6 => 2,
-        7 => 1,
-        8 => 0,
-        _ => 9,
+        FH => NO_TYPE,
+        SH => FH,
+        TH => SH,
+        DU => TH,
+        DD => TH,
+        DM => TH,
+        CH => TH,
+        OC => SH,
+        FT => FH,
+        _ => NO_TYPE,
     }
 }
 
@@ -139,7 +161,7 @@ pub fn pick(types: &[u64], values: &[u64], low: u64, high: u64, out: &mut [u64])
     }
 }
 
-// Whether each field of each record type is marked Mandatory: 19 marks a type, as the longest table has.
+// Whether each field of each record type is marked Mandatory: 19 marks a type, as the longest table has. CODES, below, names the fields.
 const MARKS: [bool; 171] = [
     // Table 4-2, FH
     true,
@@ -328,15 +350,15 @@ pub fn field_count(record_type: u64) -> usize
     ensures { λ r. ⌜ r ≡ fieldCount record_type ⌝ }
 {
     match record_type {
-        0 => 9,
-        1 => 18,
-        2 => 14,
-        3 => 17,
-        4 => 15,
-        5 => 10,
-        6 => 19,
-        7 => 11,
-        8 => 5,
+        FH => 9,
+        SH => 18,
+        TH => 14,
+        DU => 17,
+        DD => 15,
+        DM => 10,
+        CH => 19,
+        OC => 11,
+        FT => 5,
         _ => 0,
     }
 }
@@ -407,7 +429,8 @@ const VARCHAR_50: usize = 406016;
 
 // The code of the type of each field of each record type: 19 codes a type, as the longest table has.
 const CODES: [usize; 171] = [
-    // Table 4-2, FH
+    // Table 4-2, FH: 1 Record ID, 2 Parent ID, 3 Record Type, 4 Retailer ID, 5 Sender ID, 6 Commodity Code, 7 Date Created, 8 Billing Cycle, 9 Tariff
+    // Bill File Reference ID
     RECORD_ID,
     RECORD_ID,
     CHAR_2,
@@ -427,7 +450,9 @@ const CODES: [usize; 171] = [
     RECORD_ID,
     RECORD_ID,
     RECORD_ID,
-    // Table 4-3, SH
+    // Table 4-3, SH: 1 Record ID, 2 Parent ID, 3 Record Type, 4 Site ID, 5 Current Billing Period Start Date, 6 Current Billing Period End Date, 7
+    // Distributor ID, 8 Zone ID, 9 Municipality ID, 10 REA Code, 11 Billing Cycle, 12 Usage Total, 13 Usage UOM, 14 Charge Total, 15 Additional Site
+    // Information, 16 Site Production Reason Code, 17 As-at Date, 18 Parent Site ID
     RECORD_ID,
     RECORD_ID,
     CHAR_2,
@@ -447,7 +472,9 @@ const CODES: [usize; 171] = [
     DATE_TIME,
     DIGITS_13,
     RECORD_ID,
-    // Table 4-4, TH
+    // Table 4-4, TH: 1 Record ID, 2 Parent ID, 3 Record Type, 4 Site ID, 5 Tariff Bill Period Start Date, 6 Tariff Bill Period End Date, 7 Cancel
+    // Indicator, 8 Tariff Bill Period Reference ID, 9 Cancel Reason Code, 10 Tariff Rate Code, 11 Site Status Code, 12 Usage Total, 13 Usage UOM, 14
+    // Charge Total
     RECORD_ID,
     RECORD_ID,
     CHAR_2,
@@ -467,7 +494,9 @@ const CODES: [usize; 171] = [
     RECORD_ID,
     RECORD_ID,
     RECORD_ID,
-    // Table 4-5, DU
+    // Table 4-5, DU: 1 Record ID, 2 Parent ID, 3 Record Type, 4 Site ID, 5 Usage Period Start Date, 6 Usage Period End Date, 7 Cancel Indicator, 8
+    // Meter Type Code, 9 Meter Number, 10 Number of Dials, 11 From Reading, 12 From Reading Code, 13 To Reading, 14 To Reading Code, 15 Billing
+    // Multiplier, 16 Usage Amount, 17 Usage UOM
     RECORD_ID,
     RECORD_ID,
     CHAR_2,
@@ -487,7 +516,9 @@ const CODES: [usize; 171] = [
     VARCHAR_4,
     RECORD_ID,
     RECORD_ID,
-    // Table 4-6, DD
+    // Table 4-6, DD: 1 Record ID, 2 Parent ID, 3 Record Type, 4 Site ID, 5 Demand Period Start Date, 6 Demand Period End Date, 7 Cancel Indicator, 8
+    // Demand Type Code, 9 Demand Value, 10 Demand UOM, 11 Meter Number, 12 Ratchet Date Time, 13 Ratchet Period Months, 14 Power Factor, 15 Demand
+    // Contract End Date
     RECORD_ID,
     RECORD_ID,
     CHAR_2,
@@ -507,7 +538,8 @@ const CODES: [usize; 171] = [
     RECORD_ID,
     RECORD_ID,
     RECORD_ID,
-    // Table 4-7, DM
+    // Table 4-7, DM: 1 Record ID, 2 Parent ID, 3 Record Type, 4 Site ID, 5 Miscellaneous Determinant Period Start Date, 6 Miscellaneous Determinant
+    // Period End Date, 7 Cancel Indicator, 8 Unit Quantity, 9 Unit Quantity UOM, 10 Miscellaneous Determinant Code
     RECORD_ID,
     RECORD_ID,
     CHAR_2,
@@ -527,7 +559,10 @@ const CODES: [usize; 171] = [
     RECORD_ID,
     RECORD_ID,
     RECORD_ID,
-    // Table 4-8, CH
+    // Table 4-8, CH: 1 Record ID, 2 Parent ID, 3 Record Type, 4 Site ID, 5 Charge Period Start Date, 6 Charge Period End Date, 7 Cancel Indicator, 8
+    // Tariff Cross Reference Code, 9 Component Category Code, 10 Component Basis Code, 11 Component Type Code, 12 Component Step Number, 13 Component
+    // Billed Quantity, 14 Component Billed Quantity UOM, 15 Time Calculation Type, 16 Time Factor, 17 Component Unit Price, 18 Charge Amount, 19 GST
+    // Exemption Indicator
     RECORD_ID,
     RECORD_ID,
     CHAR_2,
@@ -547,7 +582,8 @@ const CODES: [usize; 171] = [
     NUMBER_19_12,
     NUMBER_11_2,
     CHAR_1,
-    // Table 4-9, OC
+    // Table 4-9, OC: 1 Record ID, 2 Parent ID, 3 Record Type, 4 Site ID, 5 Charge Date, 6 Cancel Indicator, 7 One-Time Charge Reference ID, 8 Cancel
+    // Reason Code, 9 One-Time Charge Code, 10 Charge Amount, 11 GST Exemption Indicator
     RECORD_ID,
     RECORD_ID,
     CHAR_2,
@@ -567,7 +603,7 @@ const CODES: [usize; 171] = [
     RECORD_ID,
     RECORD_ID,
     RECORD_ID,
-    // Table 4-10, FT
+    // Table 4-10, FT: 1 Record ID, 2 Parent ID, 3 Record Type, 4 File Record Count, 5 Charge Total
     RECORD_ID,
     RECORD_ID,
     CHAR_2,

@@ -96,10 +96,12 @@ fn is_wanted(search: Search, e: Entry) -> bool
     ensures { λ r. ⌜ r ≡ wants search e ⌝ }
 {
     match search {
-        Search::File(sender, id) => (e.kind == 1) & (e.sender == sender) & (e.id == id),
+        Search::File(sender, id) => (e.kind == entries::FILE) & (e.sender == sender) & (e.id == id),
         Search::Stored(sender, id) => (e.sender == sender) & (e.id == id),
         Search::Named(id, c) => {
-            ((e.state == 1) | (e.state == 2)) & (id == e.id) & soundness::has_same_subject(c, e)
+            ((e.state == entries::LIVE) | (e.state == entries::HELD))
+                & (id == e.id)
+                & soundness::has_same_subject(c, e)
         }
     }
 }
@@ -151,13 +153,13 @@ fn first_wanted(
 {
     let key = wanted_key(search);
     let mut best = used;
-    let mut held = buckets::head(heads, key);
-    while held != 0 {
-        let place = held - 1;
+    let mut link = buckets::head(heads, key);
+    while link != 0 {
+        let place = link - 1;
         if is_wanted_at(words, amounts, marks, search, place) {
             best = place;
         }
-        held = buckets::next(links, place);
+        link = buckets::next(links, place);
     }
     best
 }

@@ -6,7 +6,8 @@ use Prim.Native.Nat.{ℕ, suc, _+_, _-_, _/_, _%_, _≤_, _<_}
 use native.Mathlib.Omega.{arith}
 use lib.ListN.{length, getD, take, set}
 use lib.Seq.{length-take-le, take-suc}
-use Rattle.writing.specs.InsideWriting.{writtenAt, digitsIn}
+use Rattle.writing.specs.Decimals.{digitsIn}
+use Rattle.writing.specs.InsideWriting.{writtenAt}
 use Rattle.writing.proofs.Places.{written-none, written-back}
 use Rattle.writing.proofs.Numbers.{digits-in-length}
 

@@ -14,7 +14,7 @@ use native.Mathlib.Omega.{arith}
 use borrow.Author.Tests.{lt-ltb, le-ltb}
 use lib.Dec.{ltb}
 use lib.ListN.{length, length-append}
-use Rattle.writing.specs.InsideWriting.{digitsIn, countUpTo, digitCount, plainDigits}
+use Rattle.writing.specs.Decimals.{digitsIn, countUpTo, digitCount, plainDigits}
 
 pub digits-in-length : (w n : ℕ) → length (digitsIn w n) ≡ w
 unfolding digitsIn

@@ -2,7 +2,8 @@
 ghost use mathlib.Core.Path.{_≡_};
 ghost use Prim.Native.Nat.{_+_, _%_, _≤_};
 ghost use lib.ListN.{length};
-ghost use Rattle.writing.specs.InsideWriting.{writtenAt, digitsIn, digitCount, plainDigits};
+ghost use Rattle.writing.specs.Decimals.{digitsIn, digitCount, plainDigits};
+ghost use Rattle.writing.specs.InsideWriting.{writtenAt};
 
 // The byte of the lowest digit of n.
 fn last_digit(n: u64) -> u8

@@ -9,22 +9,22 @@ use Rattle.buckets.proofs.search.Statement.{statement}
 use Rattle.buckets.proofs.search.Tie as tie
 
 abbrev Inv-loop : tie.InvT-loop
-Inv-loop values m size tree value slot₀ held₀ rest₀ slot held rest = Walked size values m tree value slot held rest
+Inv-loop values m size tree value slot₀ content₀ rest₀ slot content rest = Walked size values m tree value slot content rest
 
 abbrev μ-loop : tie.MeasureT-loop
-μ-loop values m size tree value slot₀ held₀ rest₀ slot held rest = distance m held
+μ-loop values m size tree value slot₀ content₀ rest₀ slot content rest = distance m content
 
 bucket-requires : tie.Need-bucket-requires Inv-loop μ-loop
 bucket-requires c κs = search needs
 
-mul-held : tie.Need-mul-held Inv-loop μ-loop
-mul-held c = search needs
+mul-content : tie.Need-mul-content Inv-loop μ-loop
+mul-content c = search needs
 
-shared-slice-read-held : tie.Need-shared-slice-read-held Inv-loop μ-loop
-shared-slice-read-held c = search needs
+shared-slice-read-content : tie.Need-shared-slice-read-content Inv-loop μ-loop
+shared-slice-read-content c = search needs
 
-cast-held : tie.Need-cast-held Inv-loop μ-loop
-cast-held c = omega (arith, c .shared-slice-known3 .given (c .before .bucket .result))
+cast-content : tie.Need-cast-content Inv-loop μ-loop
+cast-content c = omega (arith, c .shared-slice-known3 .given (c .before .bucket .result))
 
 loop-holds : tie.Need-loop-holds Inv-loop μ-loop
 loop-holds c = let s = c .before .before .before .before in walk-start _ _ _ _ (s .pre .1) _ _ (c .before .bucket .ensures .0) (c .before .bucket .ensures .1)
@@ -53,16 +53,16 @@ add-slot c = omega (arith, c .before .before .before .loop .inv .few)
 add-slot-2 : tie.Need-add-slot-2 Inv-loop μ-loop
 add-slot-2 c = omega (arith, c .before .before .before .loop .inv .few)
 
-mul-held-2 : tie.Need-mul-held-2 Inv-loop μ-loop
-mul-held-2 c = omega (arith, c .before .before .before .loop .inv .few)
+mul-content-2 : tie.Need-mul-content-2 Inv-loop μ-loop
+mul-content-2 c = omega (arith, c .before .before .before .loop .inv .few)
 
-shared-slice-read-held-2 : tie.Need-shared-slice-read-held-2 Inv-loop μ-loop
-shared-slice-read-held-2 c = omega (arith, c .before .before .before .before .loop .inv .few)
+shared-slice-read-content-2 : tie.Need-shared-slice-read-content-2 Inv-loop μ-loop
+shared-slice-read-content-2 c = omega (arith, c .before .before .before .before .loop .inv .few)
 
-cast-held-2 : tie.Need-cast-held-2 Inv-loop μ-loop
-cast-held-2 c =
+cast-content-2 : tie.Need-cast-content-2 Inv-loop μ-loop
+cast-content-2 c =
     let p = c .before .before .before .before .loop in
-    omega (arith, c .shared-slice-known5 .given (c .before .before .before .before .before .before .before .before .before .args .size + 2 * (p .held - 1) + p .rest % 2))
+    omega (arith, c .shared-slice-known5 .given (c .before .before .before .before .before .before .before .before .before .args .size + 2 * (p .content - 1) + p .rest % 2))
 
 loop-less : tie.Need-loop-less Inv-loop μ-loop
 loop-less c = let s = c .before .before .before .before .before .before .before .before .before in walk-closer _ _ _ _ (s .pre .1) _ (c .before .before .before .before .loop .inv) (c .before .before .before .loop-test .taken) _ refl
@@ -74,4 +74,4 @@ returns-2 : tie.Need-returns-2 Inv-loop μ-loop
 returns-2 c = let s = c .before .before .before .before .before .before in walk-end _ _ _ _ (s .pre .1) _ (c .before .loop .inv) (c .loop-test .left) _ refl refl
 
 pub search-spec : {M : Type 1} → statement M
-search-spec = tie.close (tie.spec Inv-loop μ-loop bucket-requires mul-held shared-slice-read-held cast-held loop-holds sub-if1 mul-if1 shared-slice-read-if1 returns sub-slot mul-slot add-slot add-slot-2 mul-held-2 shared-slice-read-held-2 cast-held-2 loop-less loop-again returns-2)
+search-spec = tie.close (tie.spec Inv-loop μ-loop bucket-requires mul-content shared-slice-read-content cast-content loop-holds sub-if1 mul-if1 shared-slice-read-if1 returns sub-slot mul-slot add-slot add-slot-2 mul-content-2 shared-slice-read-content-2 cast-content-2 loop-less loop-again returns-2)

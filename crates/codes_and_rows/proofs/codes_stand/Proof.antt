@@ -33,8 +33,8 @@ commodity c =
     let a = c .before .before .before .before .args in
     either-asked commodityFields (now (a .numbers)) (written "EL") (written "NG") (a .record-type) (c .before .commodity-field .ensures) refl refl (c .is-either .ensures)
 
-units : (c : tie.After-is-either2) → isEither (getD unitFields (c .before .before .before .before .before .before .before .args .record-type) 0) (now (c .before .before .before .before .before .before .before .args .numbers)) (unitIf (c .before .before .before .before .before .before .before .args .electricity)) (unitIf (c .before .before .before .before .before .before .before .args .electricity)) ≡ c .is-either2 .result
-units c =
+units-stand : (c : tie.After-is-either2) → isEither (getD unitFields (c .before .before .before .before .before .before .before .args .record-type) 0) (now (c .before .before .before .before .before .before .before .args .numbers)) (unitIf (c .before .before .before .before .before .before .before .args .electricity)) (unitIf (c .before .before .before .before .before .before .before .args .electricity)) ≡ c .is-either2 .result
+units-stand c =
     let a = c .before .before .before .before .before .before .before .args in
     either-asked unitFields (now (a .numbers)) (unitIf (a .electricity)) (unitIf (a .electricity)) (a .record-type) (c .before .unit-field .ensures) (unit (c .before .before .before .before .before)) (unit (c .before .before .before .before .before)) (c .is-either2 .ensures)
 
@@ -60,7 +60,7 @@ is-either-requires-2 : tie.Need-is-either-requires-2
 is-either-requires-2 c κs = omega (arith, c .unit-field .ensures, code-fields-small (c .before .before .before .before .before .before .args .record-type) .unit, c .before .before .before .before .before .before .pre)
 
 returns-2 : tie.Need-returns-2
-returns-2 c = sym (wrong-unit _ _ _ (commodity (c .before .before .before .before) ∙ not-false _ (c .before .before .before .if2 .left)) (units (c .before) ∙ not-true _ (c .if3 .taken)))
+returns-2 c = sym (wrong-unit _ _ _ (commodity (c .before .before .before .before) ∙ not-false _ (c .before .before .before .if2 .left)) (units-stand (c .before) ∙ not-true _ (c .if3 .taken)))
 
 cancel-field-requires : tie.Need-cancel-field-requires
 cancel-field-requires c κs = search needs
@@ -69,7 +69,7 @@ is-either-requires-3 : tie.Need-is-either-requires-3
 is-either-requires-3 c κs = omega (arith, c .cancel-field .ensures, code-fields-small (c .before .before .before .before .before .before .before .before .before .args .record-type) .cancel, c .before .before .before .before .before .before .before .before .before .pre)
 
 returns-3 : tie.Need-returns-3
-returns-3 c = sym (wrong-cancel _ _ _ (commodity (c .before .before .before .before .before .before .before) ∙ not-false _ (c .before .before .before .before .before .before .if2 .left)) (units (c .before .before .before .before) ∙ not-false _ (c .before .before .before .if3 .left)) (cancel (c .before) ∙ not-true _ (c .if4 .taken)))
+returns-3 c = sym (wrong-cancel _ _ _ (commodity (c .before .before .before .before .before .before .before) ∙ not-false _ (c .before .before .before .before .before .before .if2 .left)) (units-stand (c .before .before .before .before) ∙ not-false _ (c .before .before .before .if3 .left)) (cancel (c .before) ∙ not-true _ (c .if4 .taken)))
 
 exemption-field-requires : tie.Need-exemption-field-requires
 exemption-field-requires c κs = search needs
@@ -78,7 +78,7 @@ is-either-requires-4 : tie.Need-is-either-requires-4
 is-either-requires-4 c κs = omega (arith, c .exemption-field .ensures, code-fields-small (c .before .before .before .before .before .before .before .before .before .before .before .before .args .record-type) .exemption, c .before .before .before .before .before .before .before .before .before .before .before .before .pre)
 
 returns-4 : tie.Need-returns-4
-returns-4 c = sym (last-code _ _ _ (commodity (c .before .before .before .before .before .before .before .before .before) ∙ not-false _ (c .before .before .before .before .before .before .before .before .if2 .left)) (units (c .before .before .before .before .before .before) ∙ not-false _ (c .before .before .before .before .before .if3 .left)) (cancel (c .before .before .before) ∙ not-false _ (c .before .before .if4 .left)) ∙ exemption c)
+returns-4 c = sym (last-code _ _ _ (commodity (c .before .before .before .before .before .before .before .before .before) ∙ not-false _ (c .before .before .before .before .before .before .before .before .if2 .left)) (units-stand (c .before .before .before .before .before .before) ∙ not-false _ (c .before .before .before .before .before .if3 .left)) (cancel (c .before .before .before) ∙ not-false _ (c .before .before .if4 .left)) ∙ exemption c)
 
 pub codes-stand-spec : {M : Type 1} → statement M
 codes-stand-spec =

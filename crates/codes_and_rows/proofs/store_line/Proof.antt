@@ -16,7 +16,7 @@ use Rattle.columns.proofs.Rows.{field-lent, column-inside, row-more}
 use Rattle.columns.specs.InsideRows.{RowStored}
 use Rattle.columns.specs.Columns.{fieldOf}
 use Rattle.codes_and_rows.specs.InsideNumbers.{columnNumbers}
-use Rattle.codes_and_rows.proofs.Held.{field-small, stored-after, stored-type, type-stored, stored-number, stored-yes, stored-no}
+use Rattle.codes_and_rows.proofs.Kept.{field-small, stored-after, stored-type, type-stored, stored-number, stored-yes, stored-no}
 use Rattle.codes_and_rows.proofs.store_line.Statement.{statement}
 use Rattle.codes_and_rows.proofs.store_line.Tie as tie
 
@@ -182,10 +182,10 @@ stored c =
     let a = start .args in
     let end = c .before .before .before .before .loop in
     let all : end .c ≡ 7 = omega (arith, end .inv .1, c .before .before .before .loop-test .left) in
-    let held = subst (λ (n : ℕ). RowStored (length (now (a .charges))) (set (now (a .words)) (a .i) (a .record-type)) (a .i) (columnNumbers (a .record-type) (now (a .numbers))) n (end .words)) all (end .inv .2) in
+    let kept = subst (λ (n : ℕ). RowStored (length (now (a .charges))) (set (now (a .words)) (a .i) (a .record-type)) (a .i) (columnNumbers (a .record-type) (now (a .numbers))) n (end .words)) all (end .inv .2) in
     let indicator = said start 7 (lit< tt) in
     stored-after (stored-type (a .record-type) (now (a .numbers)) (length (now (a .charges))) (a .i) (now (a .words)) (omega arith) (omega arith))
-    (row-more held (omega arith) (omega (arith, inside start 7 (lit< tt), wide start)) (c .if1 .words)
+    (row-more kept (omega arith) (omega (arith, inside start 7 (lit< tt), wide start)) (c .if1 .words)
     (⊎-elim
     (λ w. w .1 ∙ stored-yes _ _ _ indicator (w .0 .taken))
     (λ w. w .1 ∙ stored-no _ _ _ indicator (w .0 .left))

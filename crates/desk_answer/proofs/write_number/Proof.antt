@@ -5,7 +5,7 @@ use native.Mathlib.Omega.{arith}
 use mathlib.Core.List.{[], _∷_}
 use mathlib.Core.Path.{_≡_, sym, _∙_}
 use denote.Ref.{now}
-use Rattle.writing.specs.InsideWriting.{plainDigits}
+use Rattle.writing.specs.Decimals.{plainDigits}
 use Rattle.writing.proofs.Places.{piece, written-one}
 use Rattle.desk_answer.proofs.write_number.Statement.{statement}
 use Rattle.desk_answer.proofs.write_number.Tie as tie

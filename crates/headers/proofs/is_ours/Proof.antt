@@ -1,4 +1,4 @@
--- `headers::is_ours` meets its contract: a number is held as itself and one.
+-- `headers::is_ours` meets its contract: a number stands as itself and one.
 -- Assumes nothing.
 use mathlib.Core.Path.{sym}
 use Prim.Native.Nat.{_+_, _-_}

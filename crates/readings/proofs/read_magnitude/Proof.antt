@@ -24,7 +24,7 @@ returns c =
       λ e. let z : _≡_ {A = ℕ} 0 1 = cc in absurd (omega arith),
       λ e.
           told-not _
-          (λ u. omega (arith, whole-some (now (a .s)) (run .result .len) (a .whole) (a .places) (run .ensures .read .inside) (run .ensures .read .digits) (run-longest (now (a .s)) (run .result) (run .ensures)) (start .pre .0) u, c .before .if1 .taken)),
+          (λ u. omega (arith, whole-some (now (a .s)) (run .result .len) (a .whole) (a .scale) (run .ensures .read .inside) (run .ensures .read .digits) (run-longest (now (a .s)) (run .result) (run .ensures)) (start .pre .0) u, c .before .if1 .taken)),
     )
 
 misses-requires-2 : tie.Need-misses-requires-2
@@ -38,7 +38,7 @@ returns-2 c =
       λ e. let z : _≡_ {A = ℕ} 0 1 = cc in absurd (omega arith),
       λ e.
           told-not _
-          (λ u. omega (arith, whole-few (now (a .s)) (run .result .len) (a .whole) (a .places) (run .ensures .read .inside) (run .ensures .read .digits) (run-longest (now (a .s)) (run .result) (run .ensures)) (start .pre .0) u, c .before .if2 .taken)),
+          (λ u. omega (arith, whole-few (now (a .s)) (run .result .len) (a .whole) (a .scale) (run .ensures .read .inside) (run .ensures .read .digits) (run-longest (now (a .s)) (run .result) (run .ensures)) (start .pre .0) u, c .before .if2 .taken)),
     )
 
 read-places-requires : tie.Need-read-places-requires

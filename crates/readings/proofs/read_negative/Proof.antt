@@ -40,7 +40,7 @@ returns c =
     )
 
 -- the amount that stands after the minus
-size : (c : tie.Else1) → let a = c .before .before .before .before .args in MagnitudeRead (a .whole) (a .places) (drop 1 (now (a .s))) (c .before .read-magnitude .result)
+size : (c : tie.Else1) → let a = c .before .before .before .before .args in MagnitudeRead (a .whole) (a .scale) (drop 1 (now (a .s))) (c .before .read-magnitude .result)
 size c = simp part-rest at (c .before .read-magnitude .ensures .0 (not-false _ (c .if1 .left)))
 
 add-reads : tie.Need-add-reads
@@ -60,7 +60,7 @@ returns-2 c = (
   λ e.
       let start = c .before .before .before .before .before in
       let a = start .args in
-      minus-read (a .whole) (a .places) (now (a .s)) (c .before .before .read-magnitude .result) (c .reads .result) (start .pre .0) (start .pre .1) (size (c .before)) (c .reads .ensures .1) (c .reads .ensures .2),
+      minus-read (a .whole) (a .scale) (now (a .s)) (c .before .before .read-magnitude .result) (c .reads .result) (start .pre .0) (start .pre .1) (size (c .before)) (c .reads .ensures .1) (c .reads .ensures .2),
   λ e. let z : _≡_ {A = ℕ} 0 1 = cc in absurd (omega arith),
 )
 

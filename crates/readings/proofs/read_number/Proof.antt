@@ -29,7 +29,7 @@ returns : tie.Need-returns
 returns c = (
   λ e.
       let a = c .before .before .before .before .args in
-      empty-read (Number (a .precision) (a .places)) (now (a .s)) (c .reads .result) (next-ends (now (a .s)) 0 zero-le (sym (c .before .before .next-byte .ensures) ∙ c .before .if1 .taken)) (c .reads .ensures .1) (c .reads .ensures .2),
+      empty-read (Number (a .precision) (a .scale)) (now (a .s)) (c .reads .result) (next-ends (now (a .s)) 0 zero-le (sym (c .before .before .next-byte .ensures) ∙ c .before .if1 .taken)) (c .reads .ensures .1) (c .reads .ensures .2),
   λ e. let z : _≡_ {A = ℕ} 0 1 = cc in absurd (omega arith),
 )
 
@@ -55,7 +55,7 @@ filled c =
 returns-2 : tie.Need-returns-2
 returns-2 c =
     let a = c .before .before .before .before .before .args in
-    (λ e. let z : _≡_ {A = ℕ} 0 1 = cc in absurd (omega arith), λ e. told-not _ (λ fits. number-not (leadingField (now (a .s))) (a .precision) (a .places) (c .before .if2 .taken) (filled (c .before .before) .0) fits))
+    (λ e. let z : _≡_ {A = ℕ} 0 1 = cc in absurd (omega arith), λ e. told-not _ (λ fits. number-not (leadingField (now (a .s))) (a .precision) (a .scale) (c .before .if2 .taken) (filled (c .before .before) .0) fits))
 
 sub-read-negative : tie.Need-sub-read-negative
 sub-read-negative c = search needs
@@ -69,11 +69,11 @@ returns-3 : tie.Need-returns-3
 returns-3 c = (
   λ e.
       let a = c .before .before .before .before .before .before .args in
-      minus-number (a .precision) (a .places) (now (a .s)) (omega arith) (c .read-negative .result) (some (c .before .before .before) .1 ∙ c .before .if3 .taken) (c .read-negative .ensures .0 e),
+      minus-number (a .precision) (a .scale) (now (a .s)) (omega arith) (c .read-negative .result) (some (c .before .before .before) .1 ∙ c .before .if3 .taken) (c .read-negative .ensures .0 e),
   λ e.
       let a = c .before .before .before .before .before .before .args in
       let q = filled (c .before .before .before) in
-      minus-not (leadingField (now (a .s))) (a .precision) (a .places) (q .0) (q .1 ∙ c .before .if3 .taken) (c .read-negative .ensures .1 e),
+      minus-not (leadingField (now (a .s))) (a .precision) (a .scale) (q .0) (q .1 ∙ c .before .if3 .taken) (c .read-negative .ensures .1 e),
 )
 
 sub-read-magnitude : tie.Need-sub-read-magnitude
@@ -91,11 +91,11 @@ returns-4 c =
     let a = p .before .before .before .before .before .before .args in
     let q = filled (p .before .before .before) in (
       λ e. let z : _≡_ {A = ℕ} 0 1 = cc in absurd (omega arith),
-      λ e. plain-not (leadingField (now (a .s))) (a .precision) (a .places) (q .0) (λ z. p .before .if3 .left (sym (q .1) ∙ z)) (p .read-magnitude .ensures .1 (not-true _ (c .before .if4 .taken))),
+      λ e. plain-not (leadingField (now (a .s))) (a .precision) (a .scale) (q .0) (λ z. p .before .if3 .left (sym (q .1) ∙ z)) (p .read-magnitude .ensures .1 (not-true _ (c .before .if4 .taken))),
     )
 
 -- the amount that was read
-size : (c : tie.Else4) → let a = c .before .before .before .before .before .before .before .args in MagnitudeRead (a .precision - a .places) (a .places) (now (a .s)) (c .before .read-magnitude .result)
+size : (c : tie.Else4) → let a = c .before .before .before .before .before .before .before .args in MagnitudeRead (a .precision - a .scale) (a .scale) (now (a .s)) (c .before .read-magnitude .result)
 size c = c .before .read-magnitude .ensures .0 (not-false _ (c .if4 .left))
 
 mul-reads : tie.Need-mul-reads
@@ -108,7 +108,7 @@ returns-5 : tie.Need-returns-5
 returns-5 c = (
   λ e.
       let a = c .before .before .before .before .before .before .before .before .args in
-      plain-number (a .precision) (a .places) (now (a .s)) (omega arith) (c .before .before .read-magnitude .result) (c .reads2 .result) (λ z. c .before .before .before .if3 .left (sym (some (c .before .before .before .before .before) .1) ∙ z)) (size (c .before)) (c .reads2 .ensures .1) (c .reads2 .ensures .2),
+      plain-number (a .precision) (a .scale) (now (a .s)) (omega arith) (c .before .before .read-magnitude .result) (c .reads2 .result) (λ z. c .before .before .before .if3 .left (sym (some (c .before .before .before .before .before) .1) ∙ z)) (size (c .before)) (c .reads2 .ensures .1) (c .reads2 .ensures .2),
   λ e. let z : _≡_ {A = ℕ} 0 1 = cc in absurd (omega arith),
 )
 

@@ -32,7 +32,7 @@ returns c = (
       let start = c .before .before .before .before .before in
       let a = start .args in
       let read = c .before .scaled .ensures in
-      whole-read (now (a .s)) (a .w) (a .p) (a .whole) (start .pre .0) (a .places) _ (next-ends (now (a .s)) (a .p) (start .pre .0 .inside) (sym (c .before .before .before .next-byte .ensures) ∙ c .before .before .if1 .taken)) (c .reads .ensures .1) (λ h. c .reads .ensures .2 ∙ read .0 h) (rw (c .reads .ensures .2) (read .1)),
+      whole-read (now (a .s)) (a .w) (a .p) (a .whole) (start .pre .0) (a .scale) _ (next-ends (now (a .s)) (a .p) (start .pre .0 .inside) (sym (c .before .before .before .next-byte .ensures) ∙ c .before .before .if1 .taken)) (c .reads .ensures .1) (λ h. c .reads .ensures .2 ∙ read .0 h) (rw (c .reads .ensures .2) (read .1)),
   λ e. let z : _≡_ {A = ℕ} 0 1 = cc in absurd (omega arith),
 )
 
@@ -50,7 +50,7 @@ returns-2 c =
           told-not _
           (λ u.
           c .before .if2 .taken
-          (next ∙ whole-next (now (a .s)) (a .p) (a .whole) (a .places) (w .inside) (w .digits) (w .longest) (start .pre .1) u (λ z. c .before .before .if1 .left (next ∙ z)))),
+          (next ∙ whole-next (now (a .s)) (a .p) (a .whole) (a .scale) (w .inside) (w .digits) (w .longest) (start .pre .1) u (λ z. c .before .before .if1 .left (next ∙ z)))),
     )
 
 -- a point stands at p
@@ -81,14 +81,14 @@ after : (c : tie.After-leading-digits) → let a = c .before .before .before .be
 after c = simp part-rest at (c .leading-digits .ensures)
 
 -- where the field is an amount, they are all that stand after the point
-found : (c : tie.After-leading-digits) → let a = c .before .before .before .before .before .before .args in isUnsigned (a .whole) (a .places) (leadingField (now (a .s))) ≡ true
-    → (1 ≤ c .leading-digits .result .len) × (c .leading-digits .result .len ≤ a .places) × (a .p + 1 + c .leading-digits .result .len ≡ fieldEnd (now (a .s)))
+found : (c : tie.After-leading-digits) → let a = c .before .before .before .before .before .before .args in isUnsigned (a .whole) (a .scale) (leadingField (now (a .s))) ≡ true
+    → (1 ≤ c .leading-digits .result .len) × (c .leading-digits .result .len ≤ a .scale) × (a .p + 1 + c .leading-digits .result .len ≡ fieldEnd (now (a .s)))
 found c u =
     let start = c .before .before .before .before .before .before in
     let a = start .args in
     let w = start .pre .0 in
     let point = dot (c .before .before) in
-    places-are (now (a .s)) (a .p) (a .whole) (a .places) (w .inside) (w .digits) (w .longest) (start .pre .1) u (c .leading-digits .result) (point .0) (point .1) (after c) (start .pre .2)
+    places-are (now (a .s)) (a .p) (a .whole) (a .scale) (w .inside) (w .digits) (w .longest) (start .pre .1) u (c .leading-digits .result) (point .0) (point .1) (after c) (start .pre .2)
 
 misses-requires-2 : tie.Need-misses-requires-2
 misses-requires-2 c κs = search needs
@@ -148,7 +148,7 @@ returns-6 c = (
       let a = start .args in
       let point = dot (c .before .before .before .before .before .before .before .before) in
       let read = c .before .scaled2 .ensures in
-      places-read (now (a .s)) (a .w) (a .p) (a .whole) (start .pre .0) (c .before .before .before .before .before .before .leading-digits .result) (point .0) (point .1) (after (c .before .before .before .before .before .before) .read) (a .places) _ (c .before .before .before .ends-at .ensures .0 (not-false _ (c .before .before .if5 .left))) (omega arith) (omega arith) (c .reads2 .ensures .1) (λ h. c .reads2 .ensures .2 ∙ read .0 h) (rw (c .reads2 .ensures .2) (read .1)),
+      places-read (now (a .s)) (a .w) (a .p) (a .whole) (start .pre .0) (c .before .before .before .before .before .before .leading-digits .result) (point .0) (point .1) (after (c .before .before .before .before .before .before) .read) (a .scale) _ (c .before .before .before .ends-at .ensures .0 (not-false _ (c .before .before .if5 .left))) (omega arith) (omega arith) (c .reads2 .ensures .1) (λ h. c .reads2 .ensures .2 ∙ read .0 h) (rw (c .reads2 .ensures .2) (read .1)),
   λ e. let z : _≡_ {A = ℕ} 0 1 = cc in absurd (omega arith),
 )
 

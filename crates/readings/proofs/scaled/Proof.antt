@@ -22,7 +22,7 @@ mul-result : tie.Need-mul-result
 mul-result c =
     let start = c .before .before .before in
     let a = start .args in
-    rw (c .ten-to .ensures) (omega (arith, ten-room (a .whole + a .places) (whole-alone (a .w) (a .whole) (a .places) (start .pre .0)) (omega arith)))
+    rw (c .ten-to .ensures) (omega (arith, ten-room (a .whole + a .scale) (whole-alone (a .w) (a .whole) (a .scale) (start .pre .0)) (omega arith)))
 
 sub-ten-to : tie.Need-sub-ten-to
 sub-ten-to c = search needs
@@ -31,17 +31,17 @@ ten-to-requires-2 : tie.Need-ten-to-requires-2
 ten-to-requires-2 c κs = search needs
 
 -- the digits after the point, moved up to the places
-moved : (c : tie.After-ten-to2) → c .before .before .before .before .args .f * c .ten-to2 .result < 10 ^ c .before .before .before .before .args .places
+moved : (c : tie.After-ten-to2) → c .before .before .before .before .args .f * c .ten-to2 .result < 10 ^ c .before .before .before .before .args .scale
 moved c =
     let start = c .before .before .before .before in
-    rw (c .ten-to2 .ensures) (shift (start .args .f) (start .args .q) (start .args .places) (start .pre .1) (start .pre .2))
+    rw (c .ten-to2 .ensures) (shift (start .args .f) (start .args .q) (start .args .scale) (start .pre .1) (start .pre .2))
 
 -- the number that is answered
 total : (c : tie.After-ten-to2) → let a = c .before .before .before .before .args in a .w * c .before .ten-to .result + a .f * c .ten-to2 .result < 10 ^ 15
 total c =
     let start = c .before .before .before .before in
     let a = start .args in
-    rw (c .before .ten-to .ensures) (ten-room (a .whole + a .places) (join (a .w) (a .whole) (a .places) _ (start .pre .0) (moved c)) (omega arith))
+    rw (c .before .ten-to .ensures) (ten-room (a .whole + a .scale) (join (a .w) (a .whole) (a .scale) _ (start .pre .0) (moved c)) (omega arith))
 
 mul-result-2 : tie.Need-mul-result-2
 mul-result-2 c = omega (arith, total c)

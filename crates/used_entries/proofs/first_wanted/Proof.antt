@@ -19,10 +19,10 @@ use Rattle.used_entries.proofs.first_wanted.Statement.{statement}
 use Rattle.used_entries.proofs.first_wanted.Tie as tie
 
 abbrev Inv-loop : tie.InvT-loop
-Inv-loop words amounts used heads links marks search key best₀ held₀ best held = Walked (wantedAt words amounts marks search) (length heads) (keyIn words amounts) used (wantedKey search) held best
+Inv-loop words amounts used heads links marks search key best₀ link₀ best link = Walked (wantedAt words amounts marks search) (length heads) (keyIn words amounts) used (wantedKey search) link best
 
 abbrev μ-loop : tie.MeasureT-loop
-μ-loop words amounts used heads links marks search key best₀ held₀ best held = held
+μ-loop words amounts used heads links marks search key best₀ link₀ best link = link
 
 wanted-key-requires : tie.Need-wanted-key-requires Inv-loop μ-loop
 wanted-key-requires c κs = search needs
@@ -38,9 +38,9 @@ loop-holds c =
     let value = keyIn (now (a .words)) (now (a .amounts)) in
     let size = length (now (a .heads)) in
     let bucket = bucketOf size (wantedKey (a .search)) in
-    let held : c .head .result ≡ getD (now (a .heads)) bucket 0 = c .head .ensures ∙ ap (λ (x : ℕ). getD (now (a .heads)) (bucketOf size x) 0) (c .before .wanted-key .ensures) in
+    let link : c .head .result ≡ getD (now (a .heads)) bucket 0 = c .head .ensures ∙ ap (λ (x : ℕ). getD (now (a .heads)) (bucketOf size x) 0) (c .before .wanted-key .ensures) in
     walk-start f size value (a .used) (wantedKey (a .search)) (wanted-only (now (a .words)) (now (a .amounts)) (now (a .marks)) (a .search) (a .used)) (c .head .result)
-    (subst (Latest size value bucket (a .used)) (sym held) (s .pre .1 .headed bucket))
+    (subst (Latest size value bucket (a .used)) (sym link) (s .pre .1 .headed bucket))
 
 sub-place : tie.Need-sub-place Inv-loop μ-loop
 sub-place c = search needs
@@ -55,7 +55,7 @@ loop-less : tie.Need-loop-less Inv-loop μ-loop
 loop-less c =
     let p = c .before .before .before .before .loop in
     let some = c .before .before .before .loop-test .taken in
-    omega (arith, c .next .ensures, c .before .before .before .before .before .before .before .before .before .before .before .pre .1 .linked (p .held - 1) (omega (arith, p .inv .within, some)) .within, some)
+    omega (arith, c .next .ensures, c .before .before .before .before .before .before .before .before .before .before .before .pre .1 .linked (p .link - 1) (omega (arith, p .inv .within, some)) .within, some)
 
 loop-again : tie.Need-loop-again Inv-loop μ-loop
 loop-again c =
@@ -67,18 +67,18 @@ loop-again c =
     let size = length (now (a .heads)) in
     let x = wantedKey (a .search) in
     let here = c .before .before .is-wanted-at .ensures in
-    let best : c .before .if1 .best ≡ cond (f (p .held - 1)) (p .held - 1) (p .best) =
-    ⊎-elim (λ w. w .1 ∙ ap (λ (t : Bool). cond t (p .held - 1) (p .best)) (sym (w .0 .taken) ∙ here)) (λ w. w .1 ∙ ap (λ (t : Bool). cond t (p .held - 1) (p .best)) (sym (w .0 .left) ∙ here)) (c .before .if1 .came) in
+    let best : c .before .if1 .best ≡ cond (f (p .link - 1)) (p .link - 1) (p .best) =
+    ⊎-elim (λ w. w .1 ∙ ap (λ (t : Bool). cond t (p .link - 1) (p .best)) (sym (w .0 .taken) ∙ here)) (λ w. w .1 ∙ ap (λ (t : Bool). cond t (p .link - 1) (p .best)) (sym (w .0 .left) ∙ here)) (c .before .if1 .came) in
     subst (λ (b : ℕ). Walked f size value (a .used) x (c .next .result) b) (sym best)
-    (subst (λ (h : ℕ). Walked f size value (a .used) x h (cond (f (p .held - 1)) (p .held - 1) (p .best))) (sym (c .next .ensures))
-    (walk-more f size value (a .used) x (wanted-only (now (a .words)) (now (a .amounts)) (now (a .marks)) (a .search) (a .used)) (p .held) (p .best) (p .inv) (now (a .links)) (s .pre .1 .linked) (omega (arith, c .before .before .before .loop-test .taken))))
+    (subst (λ (h : ℕ). Walked f size value (a .used) x h (cond (f (p .link - 1)) (p .link - 1) (p .best))) (sym (c .next .ensures))
+    (walk-more f size value (a .used) x (wanted-only (now (a .words)) (now (a .amounts)) (now (a .marks)) (a .search) (a .used)) (p .link) (p .best) (p .inv) (now (a .links)) (s .pre .1 .linked) (omega (arith, c .before .before .before .loop-test .taken))))
 
 returns : tie.Need-returns Inv-loop μ-loop
 returns c =
     let a = c .before .before .before .before .before .before .before .before .args in
     let p = c .before .loop in
     walk-end (wantedAt (now (a .words)) (now (a .amounts)) (now (a .marks)) (a .search)) (length (now (a .heads))) (keyIn (now (a .words)) (now (a .amounts))) (a .used) (wantedKey (a .search))
-    (wanted-only (now (a .words)) (now (a .amounts)) (now (a .marks)) (a .search) (a .used)) (p .held) (p .best) (p .inv) (omega (arith, c .loop-test .left))
+    (wanted-only (now (a .words)) (now (a .amounts)) (now (a .marks)) (a .search) (a .used)) (p .link) (p .best) (p .inv) (omega (arith, c .loop-test .left))
 
 pub first-wanted-spec : {M : Type 1} → statement M
 first-wanted-spec =

@@ -5,7 +5,7 @@ use borrow.Author.Needs.{needs}
 use native.Mathlib.Omega.{arith}
 use mathlib.Core.Path.{_≡_}
 use Prim.Native.Nat.{ℕ, _+_, _-_, _/_, _^_, _≤_, _<_}
-use Rattle.writing.specs.InsideWriting.{countUpTo, digitCount}
+use Rattle.writing.specs.Decimals.{countUpTo, digitCount}
 use Rattle.writing.proofs.Numbers.{count-step, count-end}
 use Rattle.writing.proofs.digit_count.Statement.{statement}
 use Rattle.writing.proofs.digit_count.Tie as tie

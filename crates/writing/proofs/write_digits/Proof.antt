@@ -6,7 +6,8 @@ use native.Mathlib.Omega.{arith}
 use mathlib.Core.Path.{_≡_, sym, _∙_}
 use Prim.Native.Nat.{_≤_}
 use lib.ListN.{length, length-set}
-use Rattle.writing.specs.InsideWriting.{writtenAt, digitsIn}
+use Rattle.writing.specs.Decimals.{digitsIn}
+use Rattle.writing.specs.InsideWriting.{writtenAt}
 use Rattle.writing.proofs.Loops.{digits-back, digits-end}
 use Rattle.writing.proofs.write_digits.Statement.{statement}
 use Rattle.writing.proofs.write_digits.Tie as tie

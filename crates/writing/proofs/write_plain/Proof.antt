@@ -6,7 +6,8 @@ use mathlib.Core.List.{List}
 use mathlib.Core.Path.{_≡_, _∙_, ap}
 use Prim.Native.Nat.{ℕ}
 use denote.Ref.{now}
-use Rattle.writing.specs.InsideWriting.{writtenAt, digitsIn, plainDigits, digitCount}
+use Rattle.writing.specs.Decimals.{digitsIn, plainDigits, digitCount}
+use Rattle.writing.specs.InsideWriting.{writtenAt}
 use Rattle.writing.proofs.Numbers.{plain-length}
 use Rattle.writing.proofs.write_plain.Statement.{statement}
 use Rattle.writing.proofs.write_plain.Tie as tie
