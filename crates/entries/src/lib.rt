@@ -6,6 +6,11 @@ ghost use Rattle.entries.specs.Entries.{inState, period};
 ghost use Rattle.entries.specs.InsideWords.{RoomFor, entryAt, writes, wordsAt, amountsAt};
 use calendar::Period;
 
+// "commodity (1 EL, 2 NG)"
+pub const ELECTRICITY: u64 = 1;
+
+pub const NATURAL_GAS: u64 = 2;
+
 // "kind (1 file, 2 period, 3 one-time charge)"
 pub const FILE: u64 = 1;
 

@@ -278,7 +278,11 @@ pub fn read_header(
     let e = ends[0];
     let sender = number_in(file, a, e, 5);
     let id = number_in(file, a, e, 1);
-    let commodity = either(is_electric(file, a, e), 1, 2);
+    let commodity = either(
+        is_electric(file, a, e),
+        entries::ELECTRICITY,
+        entries::NATURAL_GAS,
+    );
     let last = n - 1;
     let charge = charges[last];
     Entry {

@@ -147,20 +147,21 @@ fn mark_cancelled(
     true
 }
 
-// Whether each cancelled entry has a mark.
+// Whether each cancelled entry has a mark. There is no early exit, so that many are compared at once: where a cancelled entry stands is hard to foresee.
 fn all_marked(states: &[u8], used: usize, marks: &[u16]) -> bool
     requires { ⌜ (used ≤ length (now states)) × (used ≤ length (now marks)) ⌝ }
     ensures { λ r. ⌜ (r ≡ true → WithMarks (λ i. getD (now (states .entry)) i 0) used (now (marks .entry))) ⌝ }
     ensures { λ r. ⌜ (r ≡ false → WithMarks (λ i. getD (now (states .entry)) i 0) used (now (marks .entry)) → ⊥) ⌝ }
 {
+    let mut all = true;
     let mut j: usize = 0;
     while j < used {
         if (states[j] == CANCELLED) & (marks[j] == 0) {
-            return false;
+            all = false;
         }
         j += 1;
     }
-    true
+    all
 }
 
 // Whether cancels and cancelled entries pair off, in a ledger that is sound but for that and for live periods that share a day.
@@ -219,7 +220,7 @@ fn is_sound_in(
     apart::all_apart(firsts, lasts, live, order, marks)
 }
 
-// For up to 1,024 entries: larger columns take longer to make than so few entries to read.
+// For up to 1,024 entries, and four times as many buckets: larger columns take longer to make than so few entries to read.
 fn is_sound_of_few(words: &[u64], amounts: &[i64], used: usize) -> bool
     requires { ⌜ RoomFor used (now words) (now amounts) × (used ≤ 1024) ⌝ }
     ensures { λ r. ⌜ (r ≡ true → Sound (entriesOf (now (words .entry)) (now (amounts .entry)) used) used) ⌝ }
@@ -229,7 +230,7 @@ fn is_sound_of_few(words: &[u64], amounts: &[i64], used: usize) -> bool
     let mut states = [0u8; 1024];
     let mut firsts = [0u64; 1024];
     let mut lasts = [0u64; 1024];
-    let mut tree = [0u16; 4096];
+    let mut tree = [0u16; 6144];
     let mut marks = [0u16; 1024];
     let mut order = [0u16; 1024];
     is_sound_in(
@@ -240,7 +241,7 @@ fn is_sound_of_few(words: &[u64], amounts: &[i64], used: usize) -> bool
         &mut states,
         &mut firsts,
         &mut lasts,
-        2048,
+        4096,
         &mut tree,
         &mut marks,
         &mut order,

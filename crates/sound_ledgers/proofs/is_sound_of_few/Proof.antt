@@ -28,7 +28,7 @@ slice-aggregate-is-sound-in-7 : tie.Need-slice-aggregate-is-sound-in-7
 slice-aggregate-is-sound-in-7 c = search needs
 
 is-sound-in-requires : tie.Need-is-sound-in-requires
-is-sound-in-requires c κs = let s = c .before .before .before .before .before .before .before .before in ((s .pre .0, omega (arith, s .pre)), zero-room (s .args .used) 1024 2048 4096 (s .pre .1) (omega arith) (omega arith) (omega arith))
+is-sound-in-requires c κs = let s = c .before .before .before .before .before .before .before .before in ((s .pre .0, omega (arith, s .pre)), zero-room (s .args .used) 1024 4096 6144 (s .pre .1) (omega arith) (omega arith) (omega arith))
 
 returns : tie.Need-returns
 returns c = search needs
