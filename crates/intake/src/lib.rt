@@ -4,20 +4,19 @@ ghost use mathlib.Core.Path.{_≡_};
 ghost use Rattle.calendar.specs.Calendar.{dayOf};
 ghost use Rattle.refusals.specs.Codes.{codeOf};
 ghost use Rattle.refusals.specs.Check.{checkOf};
-ghost use Rattle.intake.specs.Answers.{packed, checkAnswer, dayAnswer, codeAnswer};
+ghost use Rattle.refusals.specs.Answers.{packed, checkAnswer, dayAnswer, codeAnswer};
 ghost use Rattle.ledger.specs.Ledger.{totalsResult, findResult};
 ghost use Rattle.booking.specs.Booking.{inputOf};
 ghost use Rattle.lent_ledger.specs.Replies.{totalsReply, findReply};
 ghost use Rattle.lent_ledger.specs.BookReplies.{HostBooked};
-use calendar::Day;
 use entries::Entry;
 use lent_ledger::BookReply;
 use lent_ledger::FindReply;
 use lent_ledger::TotalsReply;
-use refusals::RejectionCode;
 
 // Check: the first refusal of a file, as its number and line; 0 and 0 when all tests pass.
-pub fn check(retailer: u64, distributors: &[u8], file: &[u8]) -> u64
+#[no_mangle]
+pub extern "C" fn intake_check(retailer: u64, distributors: &[u8], file: &[u8]) -> u64
     ensures { λ r. ⌜ r ≡ packed (checkAnswer (checkOf retailer (now (distributors .entry)) (now (file .entry)))) ⌝ }
 {
     let outcome = validation::check(retailer, distributors, file);
@@ -25,39 +24,11 @@ pub fn check(retailer: u64, distributors: &[u8], file: &[u8]) -> u64
 }
 
 // The day of a date; 3 if it isn't one.
-pub fn day(date: &[u8]) -> u64
-    ensures { λ r. ⌜ r ≡ packed (dayAnswer (dayOf (now (date .entry)))) ⌝ }
-{
-    match calendar::day_of(date) {
-        Day::At(day) => day,
-        Day::NotADate => 3 * 4294967296,
-    }
-}
-
-// The rejection code of a test; 107 if it isn't one of Table 5-1 that document 01 lists.
-pub fn code(test: u64) -> u64
-    ensures { λ r. ⌜ r ≡ packed (codeAnswer (codeOf test)) ⌝ }
-{
-    match refusals::code_of(test) {
-        RejectionCode::Code(code) => code,
-        RejectionCode::NotATest => 107 * 4294967296,
-    }
-}
-
-// Check: the first refusal of a file, as its number and line; 0 and 0 when all tests pass.
-#[no_mangle]
-pub extern "C" fn intake_check(retailer: u64, distributors: &[u8], file: &[u8]) -> u64
-    ensures { λ r. ⌜ r ≡ packed (checkAnswer (checkOf retailer (now (distributors .entry)) (now (file .entry)))) ⌝ }
-{
-    check(retailer, distributors, file)
-}
-
-// The day of a date; 3 if it isn't one.
 #[no_mangle]
 pub extern "C" fn intake_day(date: &[u8]) -> u64
     ensures { λ r. ⌜ r ≡ packed (dayAnswer (dayOf (now (date .entry)))) ⌝ }
 {
-    day(date)
+    refusals::day_word(date)
 }
 
 // The rejection code of a test; 107 if it isn't one of Table 5-1 that document 01 lists.
@@ -65,7 +36,7 @@ pub extern "C" fn intake_day(date: &[u8]) -> u64
 pub extern "C" fn intake_code(test: u64) -> u64
     ensures { λ r. ⌜ r ≡ packed (codeAnswer (codeOf test)) ⌝ }
 {
-    code(test)
+    refusals::code_word(test)
 }
 
 // Book: refusals in document 01's order, which leave the run as it was lent; else the entries. The used count afterwards is the one before and the entries added. A

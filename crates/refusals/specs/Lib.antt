@@ -1,3 +1,4 @@
+pub mod Answers
 pub mod Check
 pub mod Codes
 pub mod InsideNumbers

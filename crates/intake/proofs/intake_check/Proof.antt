@@ -1,6 +1,6 @@
--- `intake::check` meets its contract: the number and the line that Check answers are small enough for one word.
+-- `intake::intake_check` meets its contract: the number and the line that Check answers are small enough for one word.
 -- Assumes nothing.
-use Rattle.intake.specs.Answers.{packed, checkAnswer}
+use Rattle.refusals.specs.Answers.{packed, checkAnswer}
 use Rattle.refusals.proofs.Outcomes.{check-small}
 use Rattle.refusals.specs.Check.{checkOf}
 use Rattle.refusals.specs.declared.Outcome.{Outcome}
@@ -9,8 +9,8 @@ use Prim.Native.Nat.{ℕ, _≤_}
 use mathlib.Core.Path.{_≡_, sym, _∙_, ap}
 use borrow.Author.Needs.{needs}
 use native.Mathlib.Omega.{arith}
-use Rattle.intake.proofs.check.Statement.{statement}
-use Rattle.intake.proofs.check.Tie as tie
+use Rattle.intake.proofs.intake_check.Statement.{statement}
+use Rattle.intake.proofs.intake_check.Tie as tie
 
 -- the number and the line that Check answers are small
 small : (c : tie.After-check) → (c .check .result .number ≤ 104) × (c .check .result .line ≤ 4096)
@@ -30,5 +30,5 @@ add-result c = omega (arith, small (c .before .before) .0, small (c .before .bef
 returns : tie.Need-returns
 returns c = ap (λ (o : Outcome). packed (checkAnswer o)) (c .before .before .check .ensures)
 
-pub check-spec : {M : Type 1} → statement M
-check-spec = tie.close (tie.spec check-requires mul-result add-result returns)
+pub intake-check-spec : {M : Type 1} → statement M
+intake-check-spec = tie.close (tie.spec check-requires mul-result add-result returns)

@@ -1,9 +1,9 @@
--- `intake::code` meets its contract: it packs the answers of `codes::code_of`.
+-- `refusals::code_word` meets its contract: it packs the answers of `code_of`.
 -- Assumes nothing.
 use borrow.Author.Needs.{needs}
 use native.Mathlib.Omega.{arith}
-use Rattle.intake.proofs.code.Statement.{statement}
-use Rattle.intake.proofs.code.Tie as tie
+use Rattle.refusals.proofs.code_word.Statement.{statement}
+use Rattle.refusals.proofs.code_word.Tie as tie
 
 code-of-requires : tie.Need-code-of-requires
 code-of-requires c κs = search needs
@@ -23,6 +23,6 @@ returns c = simp (← c .before .before .before .code-of .ensures, c .before .co
 returns-2 : tie.Need-returns-2
 returns-2 c = simp (← c .before .before .code-of .ensures, c .enum-told .given .1)
 
-pub code-spec : {M : Type 1} → statement M
-code-spec =
+pub code-word-spec : {M : Type 1} → statement M
+code-word-spec =
     tie.close (tie.spec code-of-requires enum-known-code enum-told mul-result returns returns-2)

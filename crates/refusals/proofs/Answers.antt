@@ -10,13 +10,13 @@ use Rattle.calendar.specs.declared.Day.{Day}
 use Rattle.calendar.specs.declared.Day.the-variants.{At, NotADate}
 use Rattle.calendar.specs.Calendar.{dayOf}
 use Rattle.calendar.proofs.Dates.{day-bound}
 use Rattle.refusals.specs.declared.RejectionCode.{RejectionCode}
 use Rattle.refusals.specs.declared.RejectionCode.the-variants.{Code, NotATest}
 use Rattle.refusals.specs.Codes.{codeOf}
 use Rattle.refusals.proofs.RejectionCodes.{code-range}
 use Rattle.refusals.specs.Check.{checkOf}
 use Rattle.refusals.proofs.Outcomes.{check-small}
-use Rattle.intake.specs.Answers.{Answer, packed, checkAnswer, dayAnswer, codeAnswer}
+use Rattle.refusals.specs.Answers.{Answer, packed, checkAnswer, dayAnswer, codeAnswer}
 
 module _ (a : Answer) (fits : a .value < 2 ^ 32) where
   pub packed-number : packed a / 2 ^ 32 ≡ a .number

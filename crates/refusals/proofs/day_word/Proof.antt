@@ -1,9 +1,9 @@
--- `intake::day` meets its contract: it packs the answers of `dates::day_of`.
+-- `refusals::day_word` meets its contract: it packs the answers of `calendar::day_of`.
 -- Assumes nothing.
 use borrow.Author.Needs.{needs}
 use native.Mathlib.Omega.{arith}
-use Rattle.intake.proofs.day.Statement.{statement}
-use Rattle.intake.proofs.day.Tie as tie
+use Rattle.refusals.proofs.day_word.Statement.{statement}
+use Rattle.refusals.proofs.day_word.Tie as tie
 
 day-of-requires : tie.Need-day-of-requires
 day-of-requires c κs = search needs
@@ -23,6 +23,6 @@ returns c = simp (← c .before .before .before .day-of .ensures, c .before .day
 returns-2 : tie.Need-returns-2
 returns-2 c = simp (← c .before .before .day-of .ensures, c .enum-told .given .1)
 
-pub day-spec : {M : Type 1} → statement M
-day-spec =
+pub day-word-spec : {M : Type 1} → statement M
+day-word-spec =
     tie.close (tie.spec day-of-requires enum-known-day enum-told mul-result returns returns-2)
