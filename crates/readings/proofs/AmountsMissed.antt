@@ -2,26 +2,25 @@
 --     told-not                       a test that can't hold
 --     whole-is, whole-next           the digits read first are those before the point; the byte after them is the field's end or the point
 --     places-are                     those read after the point are all that stand there
---     minus-field                    what stands after a minus
 -- Assumes nothing.
 use mathlib.Core.Path.{_≡_, refl, sym, _∙_, ap, subst}
 use mathlib.Core.List.{List, [], _∷_}
-use mathlib.Core.Bool.{Bool, true, false, cond, _&&_, _||_}
+use mathlib.Core.Bool.{Bool, true, false, _||_}
 use Prim.Native.Nat.{ℕ, zero, suc, _+_, _-_, _≤_, _<_, zero-le}
 use native.Mathlib.Omega.{arith}
-use borrow.Author.Tests.{leb-true, leb-false, lt-leb, ne-eqb, eqb-true}
+use borrow.Author.Tests.{leb-true, leb-false, lt-leb, eqb-true}
 use lib.Dec.{eqb, leb}
 use lib.ListN.{length, getD, take, drop, length-drop}
 use lib.Seq.{length-take-le, take-take, take-add, getD-take, drop-at}
 use Rattle.lists.specs.First.{firstWhere, isByte}
 use Rattle.lists.proofs.First.{first-le}
-use Rattle.digits.specs.Digits.{isDigit, allDigits, within}
+use Rattle.digits.specs.Digits.{allDigits, within}
 use Rattle.digits.proofs.Laws.{both-true}
 use Rattle.amounts.specs.Amounts.{pointOf, placesPart, noPoint, isUnsigned}
 use Rattle.amounts.proofs.Shape.{Unsigned, unsigned-say, isPlaces, point-inside}
 use Rattle.readings.specs.declared.Run.{Run}
-use Rattle.readings.specs.InsideLeadingBytes.{fieldEnd, leadingField, Ends, DigitsRead, AllRead}
-use Rattle.readings.proofs.Ends.{field-length, ends-there, end-ends, end-after, end-first, end-more, digits-before, same-byte, next-inside}
+use Rattle.readings.specs.InsideLeadingBytes.{fieldEnd, leadingField, AllRead}
+use Rattle.readings.proofs.Ends.{field-length, end-ends, end-after, end-more, digits-before, same-byte, next-inside}
 use Rattle.readings.proofs.Runs.{run-longest}
 use Rattle.readings.proofs.Magnitudes.{not-point}
 
@@ -125,7 +124,3 @@ module _ (s : List ℕ) (p whole scale : ℕ) (inside : p ≤ length s) (d : all
         let least : run .len ≤ fieldEnd (drop (p + 1) s) = digits-before (drop (p + 1) s) (run .len) (b .read .inside) (b .read .digits) in
         let same : run .len ≡ rest = omega (arith, most, least, end-after s (p + 1) past) in
         (omega (arith, same, low, after-length), omega (arith, same, high, after-length), omega (arith, same, past))
-
-pub minus-field : (s : List ℕ) → 0 < length s → getD s 0 0 ≡ 45 → drop 1 (leadingField s) ≡ leadingField (drop 1 s)
-minus-field [] h m = absurd (omega arith)
-minus-field (b ∷ s) h m = rw (end-first b s (λ z. omega arith)) refl

@@ -18,7 +18,7 @@ use Rattle.readings.specs.declared.Reading.{Reading}
 use Rattle.readings.specs.InsideLeadingBytes.{fieldEnd, Ends}
 use Rattle.readings.proofs.Ends.{ends-there}
 use Rattle.readings.proofs.LeadingTexts.{packed-none}
-use Rattle.readings.proofs.Magnitudes.{without-minus}
+use Rattle.readings.proofs.Magnitudes.{sign-kept}
 use Rattle.readings.specs.InsideReadings.{Says, FieldRead}
 
 -- ---- what fits
@@ -38,7 +38,7 @@ pub empty-says : (t : FieldType) → Says t [] 0
 unfolding Says digitsOf dayOf amountOf
 empty-says RecordId = refl
 empty-says (Digits width) = refl
-empty-says (Number precision scale) = λ h. without-minus 0
+empty-says (Number precision scale) = λ h. sign-kept false 0
 empty-says Date = refl
 empty-says DateTime = tt
 empty-says (Char width) = λ h. sym packed-none

@@ -1,32 +1,30 @@
 -- Laws of amounts that stand at the start of a line's bytes.
 --     whole-below, whole-read    the digits before the point: their number is below a power of ten; they are the whole field
 --     places-below, places-read  the point after them and the digits after it: their number is below a power of ten; what was read
---     minus-read                 an amount after its minus
---     with-minus, without-minus  an amount as one number
+--     sign-kept                  an amount as one number
 -- Assumes nothing.
 use mathlib.Core.Path.{_≡_, refl, sym, _∙_, ap, subst}
 use mathlib.Core.List.{List, [], _∷_}
-use mathlib.Core.Bool.{true, false, _&&_}
+use mathlib.Core.Bool.{Bool, true, false, cond, _&&_}
 use Prim.Native.Nat.{ℕ, zero, suc, _+_, _-_, _*_, _/_, _%_, _^_, _≤_, _<_}
 use native.Mathlib.Nat.{lt-of-lt-of-le, zero-mul}
 use native.Mathlib.Omega.{arith}
 use borrow.Author.Tests.{le-leb, leb-true, eq-eqb, ne-eqb}
 use lib.Dec.{eqb, leb}
-use lib.IntN.{pos, negℤ}
 use lib.ListN.{length, getD, take, drop, length-drop, drop-of-length-le}
 use lib.Seq.{length-take-le, take-all, take-take, take-add, getD-take, drop-at}
 use Rattle.lists.specs.First.{firstWhere}
 use Rattle.digits.specs.Digits.{isDigit, allDigits, followedBy, numberOf}
 use Rattle.digits.proofs.Laws.{both-true}
-use Rattle.amounts.specs.Amounts.{pointOf, isUnsigned, unitsOf}
+use Rattle.amounts.specs.Amounts.{pointOf, isUnsigned, unitsOf, signed}
 use Rattle.amounts.proofs.Powers.{ten-mono}
 use Rattle.amounts.proofs.Shape.{whole-only, whole-and-places}
 use Rattle.readings.specs.declared.Run.{Run}
 use Rattle.readings.specs.declared.Reading.{Reading}
 use Rattle.readings.specs.InsideLeadingBytes.{fieldEnd, Ends, DigitsRead}
-use Rattle.readings.proofs.Ends.{ends-there, end-first, end-more, end-after, digits-before}
+use Rattle.readings.proofs.Ends.{ends-there, end-more, end-after, digits-before}
 use Rattle.readings.proofs.Runs.{run-bound}
-use Rattle.readings.specs.InsideAmountReadings.{signedOf, WholeRead, MagnitudeRead, NegativeRead}
+use Rattle.readings.specs.InsideAmountReadings.{signedOf, WholeRead, MagnitudeRead}
 
 -- ---- where the point stands
 pub not-point : (b : ℕ) (s : List ℕ) → isDigit b && allDigits s ≡ true → (eqb b 46 ≡ false) × (allDigits s ≡ true)
@@ -146,27 +144,12 @@ module _ (s : List ℕ) (w p whole : ℕ) (a : WholeRead s w p whole) where
           small = small;
         }
 
--- ---- an amount after its minus
-pub minus-read : (whole scale : ℕ) (s : List ℕ) (size r : Reading) → 0 < length s → getD s 0 0 ≡ 45 → MagnitudeRead whole scale (drop 1 s) size
-    → r .len ≡ size .len + 1 → r .number ≡ size .number * 2 + 1 → NegativeRead whole scale s r
-minus-read whole scale [] size r h m a l n = absurd (omega arith)
-minus-read whole scale (b ∷ s) size r h m a l n =
-    let e : fieldEnd (b ∷ s) ≡ suc (fieldEnd s) = end-first b s (λ z. omega arith) in
-    record {
-      ends = omega (arith, a .ends);
-      fits = rw e (a .fits);
-      says = λ k. rw (n, e, a .says k);
-    }
-
--- ---- an amount with a minus, as one number, and one without
-pub with-minus : (m : ℕ) → signedOf (m * 2 + 1) ≡ negℤ (pos m)
+-- ---- an amount as one number, with a minus and without
+pub sign-kept : (minus : Bool) (m : ℕ) → signedOf (m * 2 + cond minus 1 0) ≡ signed minus m
 unfolding signedOf
-with-minus m =
+sign-kept true m =
     let half : (m * 2 + 1) / 2 ≡ m = omega arith in
     rw (eq-eqb ((m * 2 + 1) % 2) 1 (omega arith), half)
-
-pub without-minus : (m : ℕ) → signedOf (m * 2) ≡ pos m
-unfolding signedOf
-without-minus m =
-    let half : m * 2 / 2 ≡ m = omega arith in
-    rw (ne-eqb (m * 2 % 2) 1 (λ e. omega arith), half)
+sign-kept false m =
+    let half : (m * 2 + 0) / 2 ≡ m = omega arith in
+    rw (ne-eqb ((m * 2 + 0) % 2) 1 (λ e. omega arith), half)

@@ -1,33 +1,27 @@
 -- What a field that fits its type shows of what was read at its start: so, where that shows anything else, it does not fit.
---     fits-or                            a field that fits is empty, or filled and fits
+--     fits-or, filled-not                a field that fits is empty, or filled and fits
 --     id-ends                            the digits that were read are the whole field, where it is an ID
---     fixed-id, fixed-length, date-id, date-length, date-day    IDs of fixed length and dates are IDs, of just so many digits
---     number-not, minus-not, plain-not   numbers
+--     fixed-id, fixed-length             IDs of fixed length are IDs, of just so many digits
 --     text-ends, char-length, varchar-length    texts
 -- Assumes nothing.
-use mathlib.Core.Path.{_≡_, refl, sym, _∙_, ap, subst}
+use mathlib.Core.Path.{_≡_, refl, subst}
 use mathlib.Core.Logic.{_⊎_, inl, inr, ⊎-elim}
 use mathlib.Core.List.{List}
 use mathlib.Core.Bool.{Bool, true, false, cond, _||_}
-use Prim.Native.Nat.{ℕ, _-_, _≤_, _<_}
+use Prim.Native.Nat.{ℕ, _≤_, _<_}
 use native.Mathlib.Omega.{arith}
-use borrow.Author.Tests.{eqb-true, eqb-false, ne-eqb, leb-true, leb-false}
+use borrow.Author.Tests.{eqb-true, ne-eqb, leb-true, leb-false}
 use lib.Dec.{eqb, leb}
-use lib.ListN.{length, getD, take, drop}
+use lib.ListN.{length}
 use Rattle.lists.specs.First.{isByte}
 use Rattle.lists.proofs.First.{first-le}
-use Rattle.digits.specs.declared.Number.{Number as Read}
+use Rattle.digits.specs.declared.Number.{Number}
 use Rattle.digits.specs.declared.Number.the-variants.{Value, Other}
 use Rattle.digits.specs.Digits.{digitsOf, fixedDigitsOf}
 use Rattle.digits.proofs.Laws.{digits-say}
-use Rattle.calendar.specs.declared.Day.the-variants.{NotADate}
-use Rattle.calendar.specs.Calendar.{numberDay, dateDay, dayOf}
-use Rattle.amounts.specs.Amounts.{isNumber, isUnsigned, unsigned}
-use Rattle.amounts.proofs.Shape.{unsigned-say}
-use Rattle.amounts.proofs.Signs.{number-minus, number-plain}
 use Rattle.fields.specs.declared.FieldType.{FieldType}
-use Rattle.fields.specs.declared.FieldType.the-variants.{RecordId, Digits, Number, Date, Char, Varchar}
-use Rattle.fields.specs.Fields.{isRead, isDay, fitsFilled, fitsType}
+use Rattle.fields.specs.declared.FieldType.the-variants.{RecordId, Digits, Char, Varchar}
+use Rattle.fields.specs.Fields.{isRead, fitsFilled, fitsType}
 use Rattle.readings.specs.declared.Run.{Run}
 use Rattle.readings.specs.InsideLeadingBytes.{fieldEnd, leadingField, Ends, AllRead, TextRead}
 use Rattle.readings.proofs.Ends.{field-length, end-ends, digits-before}
@@ -48,7 +42,7 @@ unfolding fitsType
 filled-not t f h e = rw (ne-eqb (length f) 0 (λ z. omega arith), e)
 
 -- ---- IDs
-read-value : (x : Read) → isRead x ≡ true → (n : ℕ) × (x ≡ Value n)
+read-value : (x : Number) → isRead x ≡ true → (n : ℕ) × (x ≡ Value n)
 read-value (Value n) e = (n, refl)
 read-value Other e = absurd (let z : _≡_ {A = ℕ} 0 1 = cc in omega arith)
 
@@ -82,39 +76,6 @@ module _ (f : List ℕ) where
 
   pub fixed-length : (width : ℕ) → fitsType (Digits width) f ≡ true → (length f ≡ 0) ⊎ (length f ≡ width)
   fixed-length width e = ⊎-elim inl (λ some. inr (fixed-told width some .0)) (fits-or (Digits width) f e)
-
-  -- ---- dates
-  date-told : fitsFilled Date f ≡ true → (length f ≡ 8) × (n : ℕ) × (digitsOf f ≡ Value n) × (isDay (dateDay n) ≡ true)
-  unfolding dayOf
-  date-told e = go (eqb (length f) 8) refl (digitsOf f) refl e
-    where
-      go : (b : Bool) → eqb (length f) 8 ≡ b → (x : Read) → digitsOf f ≡ x → isDay (cond b (numberDay x) NotADate) ≡ true → (length f ≡ 8) × (n : ℕ) × (digitsOf f ≡ Value n) × (isDay (dateDay n) ≡ true)
-      go true q (Value n) w o = (eqb-true (length f) 8 q, n, w, o)
-      go true q Other w o = absurd (let z : _≡_ {A = ℕ} 0 1 = cc in omega arith)
-      go false q x w o = absurd (let z : _≡_ {A = ℕ} 0 1 = cc in omega arith)
-
-  pub date-id : fitsType Date f ≡ true → fitsType RecordId f ≡ true
-  date-id e = ⊎-elim (empty-fits RecordId) (λ some. fits-filled RecordId f (ap isRead (date-told some .2))) (fits-or Date f e)
-
-  pub date-length : fitsType Date f ≡ true → (length f ≡ 0) ⊎ (length f ≡ 8)
-  date-length e = ⊎-elim inl (λ some. inr (date-told some .0)) (fits-or Date f e)
-
-  pub date-day : fitsType Date f ≡ true → 0 < length f → (n : ℕ) × (digitsOf f ≡ Value n) × (isDay (dateDay n) ≡ true)
-  date-day e h = ⊎-elim (λ none. absurd (omega arith)) (λ some. let t = date-told some in (t .1, t .2, t .3)) (fits-or Date f e)
-
-  -- ---- numbers
-  pub number-not : (precision scale : ℕ) → precision ≤ scale → 0 < length f → fitsType (Number precision scale) f ≡ true → ⊥
-  unfolding isNumber
-  number-not precision scale wide h e =
-      ⊎-elim (λ none. absurd (omega arith))
-      (λ some. let u = unsigned-say (precision - scale) scale (unsigned f) some in omega (arith, u .some, u .few))
-      (fits-or (Number precision scale) f e)
-
-  pub minus-not : (precision scale : ℕ) → 0 < length f → getD f 0 0 ≡ 45 → isUnsigned (precision - scale) scale (drop 1 f) ≡ false → fitsType (Number precision scale) f ≡ false
-  minus-not precision scale h m e = filled-not (Number precision scale) f h (number-minus precision scale f h m ∙ e)
-
-  pub plain-not : (precision scale : ℕ) → 0 < length f → (getD f 0 0 ≡ 45 → ⊥) → isUnsigned (precision - scale) scale f ≡ false → fitsType (Number precision scale) f ≡ false
-  plain-not precision scale h m e = filled-not (Number precision scale) f h (number-plain precision scale f m ∙ e)
 
   -- ---- texts
   pub char-length : (width : ℕ) → fitsType (Char width) f ≡ true → (length f ≡ 0) ⊎ (length f ≡ width)

@@ -1,62 +1,69 @@
--- Laws of the field of a number, from the amount that was read.
---     plain-number, minus-number     an amount without a minus, and one with it
+-- Laws of the field of a number, from the amount without its sign that was read after the minus, where there is one.
+--     after-minus                    what the first byte says of the field
+--     number-narrow                  no digit before the point is allowed
+--     number-read, number-missed     such an amount stands there, and none does
 -- Assumes nothing.
-use mathlib.Core.Path.{_≡_, sym, _∙_}
-use mathlib.Core.List.{List}
-use mathlib.Core.Bool.{true}
-use Prim.Native.Nat.{ℕ, _-_, _*_, _<_}
+use mathlib.Core.Path.{_≡_, refl, sym, _∙_, ap}
+use mathlib.Core.List.{List, [], _∷_}
+use mathlib.Core.Bool.{Bool, true, false, cond}
+use Prim.Native.Nat.{ℕ, suc, _+_, _-_, _*_, _≤_, _<_}
 use native.Mathlib.Omega.{arith}
-use lib.ListN.{length, getD, drop, length-drop}
-use lib.Seq.{getD-take}
-use Rattle.digits.specs.declared.Number.the-variants.{Value}
-use Rattle.amounts.specs.Amounts.{isUnsigned, unitsOf}
-use Rattle.amounts.specs.InsideMagnitudes.{magnitudeOf}
-use Rattle.amounts.proofs.Shape.{point-inside, unsigned-say}
-use Rattle.amounts.proofs.Signs.{number-minus, number-plain, amount-minus, amount-plain}
+use borrow.Author.Tests.{le-leb}
+use lib.Dec.{eqb}
+use lib.ListN.{length, getD, drop}
+use Rattle.amounts.specs.Amounts.{isUnsigned, isNumber, hasMinus, unsigned}
+use Rattle.amounts.proofs.Signs.{number-narrow as no-room, amount-filled}
 use Rattle.fields.specs.declared.FieldType.the-variants.{Number}
+use Rattle.fields.specs.Fields.{fitsType}
 use Rattle.readings.specs.declared.Reading.{Reading}
 use Rattle.readings.specs.InsideLeadingBytes.{fieldEnd, leadingField}
-use Rattle.readings.proofs.Ends.{field-length}
-use Rattle.readings.specs.InsideAmountReadings.{MagnitudeRead, NegativeRead}
-use Rattle.readings.proofs.Magnitudes.{with-minus, without-minus}
+use Rattle.readings.specs.InsideAmountReadings.{MagnitudeRead}
 use Rattle.readings.specs.InsideReadings.{Says, FieldRead}
+use Rattle.readings.proofs.Ends.{end-first}
+use Rattle.readings.proofs.Magnitudes.{sign-kept}
 use Rattle.readings.proofs.Fields.{fits-filled}
+use Rattle.readings.proofs.Missed.{filled-not}
 
--- an amount that was read isn't empty
-filled : (whole scale : ℕ) (t : List ℕ) → isUnsigned whole scale t ≡ true → 0 < length t
-filled whole scale t e = omega (arith, unsigned-say whole scale t e .some, point-inside t)
+-- the byte b begins the field at the start of s, and the minus there has k bytes, one or none
+record AfterMinus (s : List ℕ) (b k : ℕ) : Type 0 where
+  sign : hasMinus (leadingField s) ≡ eqb b 45
+  rest : unsigned (leadingField s) ≡ leadingField (drop k s)
+  ends : fieldEnd s ≡ fieldEnd (drop k s) + k
+  some : 0 < length (leadingField s)
 
-magnitude-is : (whole scale : ℕ) (t : List ℕ) → isUnsigned whole scale t ≡ true → magnitudeOf whole scale t ≡ Value (unitsOf scale t)
-magnitude-is whole scale t e = rw e
+after-minus : (s : List ℕ) → (getD s 0 44 ≡ 44 → ⊥) → AfterMinus s (getD s 0 44) (cond (eqb (getD s 0 44) 45) 1 0)
+after-minus [] other = absurd (other refl)
+after-minus (b ∷ s) other = go (eqb b 45) refl
+  where
+    end : fieldEnd (b ∷ s) ≡ suc (fieldEnd s)
+    end = end-first b s other
 
--- the field's first byte is that of s
-first-byte : (s : List ℕ) → 0 < length (leadingField s) → getD (leadingField s) 0 0 ≡ getD s 0 0
-first-byte s h = getD-take (fieldEnd s) s 0 0 (rw (field-length s) at h)
+    go : (minus : Bool) → eqb b 45 ≡ minus → AfterMinus (b ∷ s) b (cond minus 1 0)
+    go true e = record { sign = rw end refl; rest = rw (end, e) refl; ends = rw end (omega arith); some = rw end (omega arith) }
+    go false e = record { sign = rw end refl; rest = rw (end, e) refl; ends = omega arith; some = rw end (omega arith) }
 
-module _ (precision scale : ℕ) (s : List ℕ) (room : scale < precision) where
-  pub plain-number : (size r : Reading) → (getD s 0 0 ≡ 45 → ⊥) → MagnitudeRead (precision - scale) scale s size → r .len ≡ size .len → r .number ≡ size .number * 2
-      → FieldRead (Number precision scale) s r
-  unfolding Says
-  plain-number size r m a l n =
-      let t = leadingField s in
-      let some = filled (precision - scale) scale t (a .fits) in
-      let first : getD t 0 0 ≡ 45 → ⊥ = λ z. m (sym (first-byte s some) ∙ z) in
-      record {
-        ends = l ∙ a .ends;
-        fits = fits-filled (Number precision scale) t (number-plain precision scale t first ∙ a .fits);
-        says = λ few.
-            rw (n, without-minus, a .says (omega arith), amount-plain precision scale t some few (Value (unitsOf scale t)) first (magnitude-is (precision - scale) scale t (a .fits)));
-      }
+module _ (precision scale : ℕ) (s : List ℕ) (other : getD s 0 44 ≡ 44 → ⊥) where
+  pub number-narrow : precision ≤ scale → fitsType (Number precision scale) (leadingField s) ≡ false
+  number-narrow h = filled-not (Number precision scale) (leadingField s) (after-minus s other .some) (no-room precision scale (leadingField s) h)
 
-  pub minus-number : (r : Reading) → getD s 0 0 ≡ 45 → NegativeRead (precision - scale) scale s r → FieldRead (Number precision scale) s r
-  unfolding Says
-  minus-number r m a =
-      let t = leadingField s in
-      let some : 0 < length t = omega (arith, filled (precision - scale) scale (drop 1 t) (a .fits), length-drop 1 t) in
-      let first : getD t 0 0 ≡ 45 = first-byte s some ∙ m in
-      record {
-        ends = a .ends;
-        fits = fits-filled (Number precision scale) t (number-minus precision scale t some first ∙ a .fits);
-        says = λ few.
-            rw (a .says (omega arith), with-minus, amount-minus precision scale t some few (Value (unitsOf scale (drop 1 t))) first (magnitude-is (precision - scale) scale (drop 1 t) (a .fits)));
-      }
+  module _ (k : ℕ) (minus : k ≡ cond (eqb (getD s 0 44) 45) 1 0) where
+    field : AfterMinus s (getD s 0 44) k
+    field = rw minus (after-minus s other)
+
+    shape : isNumber precision scale (leadingField s) ≡ isUnsigned (precision - scale) scale (leadingField (drop k s))
+    unfolding isNumber
+    shape = rw (field .rest)
+
+    pub number-missed : isUnsigned (precision - scale) scale (leadingField (drop k s)) ≡ false → fitsType (Number precision scale) (leadingField s) ≡ false
+    number-missed none = filled-not (Number precision scale) (leadingField s) (field .some) (shape ∙ none)
+
+    pub number-read : (size r : Reading) → scale < precision → MagnitudeRead (precision - scale) scale (drop k s) size → r .len ≡ size .len + k
+        → r .number ≡ size .number * 2 + k → FieldRead (Number precision scale) s r
+    unfolding Says
+    number-read size r room a l n =
+        record {
+          ends = l ∙ ap (λ (j : ℕ). j + k) (a .ends) ∙ sym (field .ends);
+          fits = fits-filled (Number precision scale) (leadingField s) (shape ∙ a .fits);
+          says = λ few.
+              rw (n, minus, sign-kept, a .says (omega arith), amount-filled precision scale (leadingField s) (field .some), field .sign, field .rest, a .fits, le-leb precision 15 few);
+        }

@@ -1,11 +1,11 @@
 -- What is read of an amount that stands at the start of a line's bytes: where the field ends, and what it says as one number.
 -- Assumes nothing.
-use Prim.Native.Nat.{ℕ, _+_, _*_, _/_, _%_, _^_, _≤_, _<_}
+use Prim.Native.Nat.{ℕ, _+_, _/_, _%_, _^_, _≤_, _<_}
 use mathlib.Core.Path.{_≡_}
 use mathlib.Core.List.{List}
 use mathlib.Core.Bool.{true, false}
 use lib.IntN.{ℤ}
-use lib.ListN.{length, take, drop}
+use lib.ListN.{length, take}
 use lib.Dec.{eqb}
 use Rattle.digits.specs.Digits.{allDigits, numberOf}
 use Rattle.amounts.specs.Amounts.{isUnsigned, unitsOf, signed}
@@ -32,18 +32,7 @@ pub record WholeRead (s : List ℕ) (w p whole : ℕ) : Type 0 where
   pub value : w ≡ numberOf (take p s)
   pub longest : (m : ℕ) → m ≤ length s → m ≤ 15 → allDigits (take m s) ≡ true → m ≤ p
 
--- what is read of an amount with a minus at the start of s
-pub record NegativeRead (whole scale : ℕ) (s : List ℕ) (r : Reading) : Type 0 where
-  pub ends : r .len ≡ fieldEnd s
-  pub fits : isUnsigned whole scale (drop 1 (leadingField s)) ≡ true
-  pub says : whole + scale ≤ 15 → r .number ≡ unitsOf scale (drop 1 (leadingField s)) * 2 + 1
-
 -- whether an amount without its sign stands at the start of s, and then what is read of it
 abbrev pub MagnitudeTold : ℕ → ℕ → List ℕ → Reading → Type 0
 MagnitudeTold whole scale s r =
     (r .fits ≡ true → MagnitudeRead whole scale s r) × (r .fits ≡ false → isUnsigned whole scale (leadingField s) ≡ false)
-
--- the same of one with a minus
-abbrev pub NegativeTold : ℕ → ℕ → List ℕ → Reading → Type 0
-NegativeTold whole scale s r =
-    (r .fits ≡ true → NegativeRead whole scale s r) × (r .fits ≡ false → isUnsigned whole scale (drop 1 (leadingField s)) ≡ false)

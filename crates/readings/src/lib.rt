@@ -1,11 +1,12 @@
 // Readings: the field at the start of a line's bytes, read in one pass: where it ends, whether it fits its type, and what it says as one number.
 // A reading is certain: it fits where the field does, and where the field does not fit it does not.
 ghost use mathlib.Core.Path.{_≡_};
-ghost use mathlib.Core.Bool.{true, false};
+ghost use mathlib.Core.Bool.{true, false, cond};
+ghost use mathlib.Core.List.{List};
 ghost use Prim.Native.Nat.{ℕ, _≤_, _<_, _+_, _*_, _-_, _^_};
 ghost use lib.ListN.{length, getD};
 ghost use Rattle.readings.specs.InsideLeadingBytes.{Ends, DigitsRead, AllRead, TextRead};
-ghost use Rattle.readings.specs.InsideAmountReadings.{signedOf, WholeRead, MagnitudeTold, NegativeTold};
+ghost use Rattle.readings.specs.InsideAmountReadings.{signedOf, WholeRead, MagnitudeTold};
 ghost use Rattle.calendar.specs.InsideFirstDays.{firstDays};
 ghost use Rattle.fields.specs.declared.FieldType.the-variants.{RecordId, Digits, Number, Date, DateTime, Char, Varchar};
 ghost use Rattle.tables.specs.InsideCodes.{typeOfCode};
@@ -215,21 +216,6 @@ pub fn read_magnitude(s: &[u8], whole: usize, scale: usize) -> Reading
     read_places(s, run.value, p, whole, scale)
 }
 
-// An amount after its minus.
-pub fn read_negative(s: &[u8], whole: usize, scale: usize) -> Reading
-    requires { ⌜ (0 < length (now s)) × (getD (now s) 0 0 ≡ 45) × (whole ≤ 15) × (scale ≤ 15) ⌝ }
-    ensures { λ r. ⌜ NegativeTold whole scale (now (s .entry)) r ⌝ }
-{
-    let size = read_magnitude(&s[1..], whole, scale);
-    let fits = size.fits;
-    let len = size.len;
-    let number = size.number;
-    if !fits {
-        return misses();
-    }
-    reads(len + 1, number * 2 + 1)
-}
-
 // The amount that a number says.
 pub fn signed(number: u64) -> i64
     ensures { λ r. ⌜ r ≡ signedOf number ⌝ }
@@ -285,27 +271,36 @@ fn read_digits(s: &[u8], width: usize) -> Reading
     misses()
 }
 
-fn read_date(days: &[u64], s: &[u8]) -> Reading
+// The date that an ID of eight digits writes. An empty field, whose number is 0, is an empty date.
+fn date_of(days: &[u64], id: Reading) -> Reading
     requires { ⌜ now days ≡ firstDays ⌝ }
-    ensures { λ r. ⌜ FieldTold Date (now (s .entry)) r ⌝ }
+    ensures { λ r. ⌜ ((s : List ℕ) → FieldTold (Digits 8) s id → FieldTold Date s r) ⌝ }
 {
-    let id = read_long_id(s);
     let fits = id.fits;
-    let len = id.len;
     let number = id.number;
     if !fits {
-        return misses();
-    }
-    if len == 0 {
         return id;
     }
-    if len != 8 {
-        return misses();
+    if number == 0 {
+        return id;
     }
     match calendar::date_day(days, number - 1) {
         Day::At(day) => reads(8, day + 1),
         Day::NotADate => misses(),
     }
+}
+
+// An ID of just so many digits, or a date, which has eight. One call reads the digits of both, so that it is compiled into the loop over a line's fields.
+fn read_fixed(days: &[u64], s: &[u8], width: usize, is_date: bool) -> Reading
+    requires { ⌜ now days ≡ firstDays ⌝ }
+    ensures { λ r. ⌜ FieldTold (cond «is_date» Date (Digits width)) (now (s .entry)) r ⌝ }
+{
+    let digits = if is_date { 8 } else { width };
+    let id = read_digits(s, digits);
+    if is_date {
+        return date_of(days, id);
+    }
+    id
 }
 
 fn read_date_time(days: &[u64], s: &[u8]) -> Reading
@@ -319,6 +314,7 @@ fn read_date_time(days: &[u64], s: &[u8]) -> Reading
     misses()
 }
 
+// An amount. One call reads it with a minus and without, so that it is compiled into the loop over a line's fields.
 fn read_number(s: &[u8], precision: usize, scale: usize) -> Reading
     requires { ⌜ (precision - scale ≤ 15) × (scale ≤ 15) ⌝ }
     ensures { λ r. ⌜ FieldTold (Number precision scale) (now (s .entry)) r ⌝ }
@@ -330,17 +326,15 @@ fn read_number(s: &[u8], precision: usize, scale: usize) -> Reading
     if precision <= scale {
         return misses();
     }
-    if first == 45 {
-        return read_negative(s, precision - scale, scale);
-    }
-    let size = read_magnitude(s, precision - scale, scale);
+    let minus: usize = if first == 45 { 1 } else { 0 };
+    let size = read_magnitude(&s[minus..], precision - scale, scale);
     let fits = size.fits;
     let len = size.len;
     let number = size.number;
     if !fits {
         return misses();
     }
-    reads(len, number * 2)
+    reads(len + minus, number * 2 + minus as u64)
 }
 
 pub fn read_char(s: &[u8], width: usize) -> Reading
@@ -388,10 +382,10 @@ pub fn read_field(days: &[u64], code: usize, s: &[u8]) -> Reading
     ensures { λ r. ⌜ FieldTold (typeOfCode code) (now (s .entry)) r ⌝ }
 {
     let first = code / 256 % 256;
-    match code / 65536 {
-        1 => read_digits(s, first),
+    let kind = code / 65536;
+    match kind {
+        1 | 3 => read_fixed(days, s, first, kind == 3),
         2 => read_number(s, first, code % 256),
-        3 => read_date(days, s),
         4 => read_date_time(days, s),
         5 => read_char(s, first),
         6 => read_varchar(s, first),

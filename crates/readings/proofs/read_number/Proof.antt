@@ -1,19 +1,21 @@
--- `readings::read_number` meets its contract: an empty field, an amount after its minus, or one without.
+-- `readings::read_number` meets its contract: an empty field, or an amount after its minus, where it has one.
 -- Assumes nothing.
-use Rattle.readings.proofs.AmountsMissed.{told-not}
-use Rattle.readings.proofs.Missed.{number-not, minus-not, plain-not}
-use Rattle.readings.specs.InsideLeadingBytes.{fieldEnd, leadingField}
-use Rattle.readings.proofs.Ends.{field-length, end-more, next-ends, next-inside, next-is}
-use lib.Seq.{getD-take}
-use Rattle.readings.proofs.Numbers.{plain-number, minus-number}
-use Rattle.readings.proofs.Fields.{empty-read}
-use Rattle.readings.specs.InsideAmountReadings.{MagnitudeRead}
-use Rattle.fields.specs.declared.FieldType.the-variants.{Number}
-use denote.Ref.{now}
-use lib.ListN.{length, getD}
-use borrow.Author.Tests.{not-false, not-true}
-use Prim.Native.Nat.{ℕ, _-_, _<_, zero-le}
 use mathlib.Core.Path.{_≡_, sym, _∙_}
+use mathlib.Core.Logic.{⊎-elim}
+use mathlib.Core.Bool.{cond}
+use Prim.Native.Nat.{ℕ, _-_, _≤_, zero-le}
+use borrow.Author.Tests.{not-false, not-true, eq-eqb, ne-eqb}
+use lib.ListN.{length, getD, drop, length-drop}
+use lib.Dec.{eqb}
+use denote.Ref.{now}
+use Rattle.lists.specs.First.{isByte}
+use Rattle.lists.proofs.First.{first-le}
+use Rattle.lists.proofs.Parts.{part-rest}
+use Rattle.fields.specs.declared.FieldType.the-variants.{Number}
+use Rattle.readings.specs.InsideAmountReadings.{MagnitudeRead, MagnitudeTold}
+use Rattle.readings.proofs.Fields.{empty-read}
+use Rattle.readings.proofs.Numbers.{number-narrow, number-read, number-missed}
+use Rattle.readings.proofs.Ends.{next-ends, next-inside}
 use borrow.Author.Needs.{needs}
 use native.Mathlib.Omega.{arith}
 use Rattle.readings.proofs.read_number.Statement.{statement}
@@ -33,84 +35,88 @@ returns c = (
   λ e. let z : _≡_ {A = ℕ} 0 1 = cc in absurd (omega arith),
 )
 
+-- a byte of the field stands first
+other : (c : tie.Else1) → getD (now (c .before .before .before .args .s)) 0 44 ≡ 44 → ⊥
+other c z = c .if1 .left (c .before .next-byte .ensures ∙ z)
+
 misses-requires : tie.Need-misses-requires
 misses-requires c κs = search needs
-
--- a byte of the field stands first, as the code reads it
-some : (c : tie.Else1) → let s = now (c .before .before .before .args .s) in (0 < length s) × (getD s 0 0 ≡ c .before .next-byte .result)
-some c =
-    let s = now (c .before .before .before .args .s) in
-    let e = c .before .next-byte .ensures in
-    let other : getD s 0 44 ≡ 44 → ⊥ = λ z. c .if1 .left (e ∙ z) in
-    (next-inside s 0 other, next-is s 0 other ∙ sym e)
-
--- so the field is filled, and begins with that byte
-filled : (c : tie.Else1) → let s = now (c .before .before .before .args .s) in (0 < length (leadingField s)) × (getD (leadingField s) 0 0 ≡ c .before .next-byte .result)
-filled c =
-    let s = now (c .before .before .before .args .s) in
-    let q = some c in
-    let more = end-more s 0 zero-le (q .0) (λ z. c .if1 .left (sym (q .1) ∙ z)) in
-    (omega (arith, field-length s, more), getD-take (fieldEnd s) s 0 0 (omega (arith, more)) ∙ q .1)
 
 returns-2 : tie.Need-returns-2
 returns-2 c =
     let a = c .before .before .before .before .before .args in
-    (λ e. let z : _≡_ {A = ℕ} 0 1 = cc in absurd (omega arith), λ e. told-not _ (λ fits. number-not (leadingField (now (a .s))) (a .precision) (a .scale) (c .before .if2 .taken) (filled (c .before .before) .0) fits))
+    (λ e. let z : _≡_ {A = ℕ} 0 1 = cc in absurd (omega arith), λ e. number-narrow (a .precision) (a .scale) (now (a .s)) (other (c .before .before)) (c .before .if2 .taken))
 
-sub-read-negative : tie.Need-sub-read-negative
-sub-read-negative c = search needs
+-- the minus has one byte, or none
+minus-is : (c : tie.Joined3) → c .if3 .minus ≡ cond (eqb (getD (now (c .before .before .before .before .before .args .s)) 0 44) 45) 1 0
+minus-is c =
+    let first = sym (c .before .before .before .next-byte .ensures) in
+    ⊎-elim (λ w. w .1 ∙ sym (rw (eq-eqb _ _ (first ∙ w .0 .taken)))) (λ w. w .1 ∙ sym (rw (ne-eqb _ _ (λ z. w .0 .left (sym first ∙ z))))) (c .if3 .came)
 
-read-negative-requires : tie.Need-read-negative-requires
-read-negative-requires c κs =
-    let start = c .before .before .before .before .before in
-    (some (c .before .before) .0, some (c .before .before) .1 ∙ c .if3 .taken, start .pre .0, start .pre .1)
-
-returns-3 : tie.Need-returns-3
-returns-3 c = (
-  λ e.
-      let a = c .before .before .before .before .before .before .args in
-      minus-number (a .precision) (a .scale) (now (a .s)) (omega arith) (c .read-negative .result) (some (c .before .before .before) .1 ∙ c .before .if3 .taken) (c .read-negative .ensures .0 e),
-  λ e.
-      let a = c .before .before .before .before .before .before .args in
-      let q = filled (c .before .before .before) in
-      minus-not (leadingField (now (a .s))) (a .precision) (a .scale) (q .0) (q .1 ∙ c .before .if3 .taken) (c .read-negative .ensures .1 e),
-)
+minus-inside : (c : tie.Joined3) → (c .if3 .minus ≤ 1) × (1 ≤ length (now (c .before .before .before .before .before .args .s)))
+minus-inside c = (⊎-elim (λ w. omega (arith, w .1)) (λ w. omega (arith, w .1)) (c .if3 .came), next-inside (now (c .before .before .before .before .before .args .s)) 0 (other (c .before .before)))
 
 sub-read-magnitude : tie.Need-sub-read-magnitude
-sub-read-magnitude c = search needs
+sub-read-magnitude c = omega (arith, minus-inside (c .before))
+
+part-read-magnitude-start : tie.Need-part-read-magnitude-start
+part-read-magnitude-start c = omega (arith, minus-inside (c .before))
+
+part-read-magnitude-end : tie.Need-part-read-magnitude-end
+part-read-magnitude-end c = search needs
+
+sub-read-magnitude-2 : tie.Need-sub-read-magnitude-2
+sub-read-magnitude-2 c = search needs
 
 read-magnitude-requires : tie.Need-read-magnitude-requires
 read-magnitude-requires c κs = search needs
 
+-- what stands after the minus
+size : (c : tie.After-read-magnitude) → let a = c .before .before .before .before .before .before .before .before .args in
+    MagnitudeTold (a .precision - a .scale) (a .scale) (drop (c .before .before .before .if3 .minus) (now (a .s))) (c .read-magnitude .result)
+size c = rw part-rest at (c .read-magnitude .ensures)
+
+size-read : (c : tie.Else4) → let a = c .before .before .before .before .before .before .before .before .before .args in
+    MagnitudeRead (a .precision - a .scale) (a .scale) (drop (c .before .before .before .before .if3 .minus) (now (a .s))) (c .before .read-magnitude .result)
+size-read c = size (c .before) .0 (not-false _ (c .if4 .left))
+
 misses-requires-2 : tie.Need-misses-requires-2
 misses-requires-2 c κs = search needs
 
-returns-4 : tie.Need-returns-4
-returns-4 c =
-    let p = c .before .before in
-    let a = p .before .before .before .before .before .before .args in
-    let q = filled (p .before .before .before) in (
+returns-3 : tie.Need-returns-3
+returns-3 c =
+    let p = c .before .before .before .before .before in
+    let a = p .before .before .before .before .before .args in (
       λ e. let z : _≡_ {A = ℕ} 0 1 = cc in absurd (omega arith),
-      λ e. plain-not (leadingField (now (a .s))) (a .precision) (a .scale) (q .0) (λ z. p .before .if3 .left (sym (q .1) ∙ z)) (p .read-magnitude .ensures .1 (not-true _ (c .before .if4 .taken))),
+      λ e.
+          number-missed (a .precision) (a .scale) (now (a .s)) (other (p .before .before)) (p .if3 .minus) (minus-is p)
+          (size (c .before .before) .1 (not-true _ (c .before .if4 .taken))),
     )
 
--- the amount that was read
-size : (c : tie.Else4) → let a = c .before .before .before .before .before .before .before .args in MagnitudeRead (a .precision - a .scale) (a .scale) (now (a .s)) (c .before .read-magnitude .result)
-size c = c .before .read-magnitude .ensures .0 (not-false _ (c .if4 .left))
+add-reads : tie.Need-add-reads
+add-reads c =
+    let p = c .before .before .before .before in
+    let rest = drop (p .if3 .minus) (now (p .before .before .before .before .before .args .s)) in
+    omega (arith, size-read c .ends, first-le (isByte 44) rest, length-drop (p .if3 .minus) (now (p .before .before .before .before .before .args .s)), minus-inside p)
 
 mul-reads : tie.Need-mul-reads
-mul-reads c = omega (arith, size c .small)
+mul-reads c = omega (arith, size-read c .small)
+
+add-reads-2 : tie.Need-add-reads-2
+add-reads-2 c = omega (arith, size-read (c .before) .small, minus-inside (c .before .before .before .before .before) .0)
 
 reads-requires-2 : tie.Need-reads-requires-2
 reads-requires-2 c κs = search needs
 
-returns-5 : tie.Need-returns-5
-returns-5 c = (
-  λ e.
-      let a = c .before .before .before .before .before .before .before .before .args in
-      plain-number (a .precision) (a .scale) (now (a .s)) (omega arith) (c .before .before .read-magnitude .result) (c .reads2 .result) (λ z. c .before .before .before .if3 .left (sym (some (c .before .before .before .before .before) .1) ∙ z)) (size (c .before)) (c .reads2 .ensures .1) (c .reads2 .ensures .2),
-  λ e. let z : _≡_ {A = ℕ} 0 1 = cc in absurd (omega arith),
-)
+returns-4 : tie.Need-returns-4
+returns-4 c =
+    let p = c .before .before .before .before .before .before in
+    let a = p .before .before .before .before .before .args in (
+      λ e.
+          number-read (a .precision) (a .scale) (now (a .s)) (other (p .before .before)) (p .if3 .minus) (minus-is p) (c .before .before .before .read-magnitude .result)
+          (c .reads2 .result) (omega arith) (size-read (c .before .before)) (c .reads2 .ensures .1) (c .reads2 .ensures .2),
+      λ e. let z : _≡_ {A = ℕ} 0 1 = cc in absurd (omega arith),
+    )
 
 pub read-number-spec : {M : Type 1} → statement M
 read-number-spec =
@@ -121,13 +127,15 @@ read-number-spec =
     returns
     misses-requires
     returns-2
-    sub-read-negative
-    read-negative-requires
-    returns-3
     sub-read-magnitude
+    part-read-magnitude-start
+    part-read-magnitude-end
+    sub-read-magnitude-2
     read-magnitude-requires
     misses-requires-2
-    returns-4
+    returns-3
+    add-reads
     mul-reads
+    add-reads-2
     reads-requires-2
-    returns-5)
+    returns-4)
