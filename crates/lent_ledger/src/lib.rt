@@ -19,7 +19,6 @@ use booking::Answer;
 use entries::Entry;
 use ledger::Found;
 use ledger::Totals;
-use records::Lines;
 
 // The answer of Book: a refusal's number and line; or 0, and how many entries were added and how many held.
 #[repr(C)]
@@ -112,8 +111,8 @@ fn size_for(places: usize, needed: usize) -> usize
     places
 }
 
-// How many of a run's places Book is told of, so that a large run with few entries in use takes small words: whether there is room for what a file adds
-// rests on its lines.
+// How many of a run's places Book is told of, so that a large run with few entries in use takes small words. It counts the bytes that end lines: whether
+// there is room for what a file adds rests on its lines, of which there is at most one more.
 pub fn places_told(file: &[u8], places: usize, used: usize) -> usize
     ensures { λ r. ⌜ Told places used (length (linesOf (now (file .entry)))) r ⌝ }
 {
@@ -126,12 +125,11 @@ pub fn places_told(file: &[u8], places: usize, used: usize) -> usize
     if 4096 < used {
         return places;
     }
-    let mut starts = [0usize; 1023];
-    let mut ends = [0usize; 1023];
-    match records::find_lines(file, &mut starts, &mut ends) {
-        Lines::Count(n) => size_for(places, used + 1 + n),
-        Lines::TooMany => places,
+    let ends = records::line_ends(file);
+    if 1023 <= ends {
+        return places;
     }
+    size_for(places, used + 2 + ends)
 }
 
 // Book on a run, with lent words for so many of its places.

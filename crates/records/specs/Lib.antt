@@ -1,3 +1,4 @@
+pub mod InsideLineEnds
 pub mod InsidePlacedFields
 pub mod InsidePlacedLines
 pub mod Records

@@ -3,6 +3,7 @@ ghost use mathlib.Core.Path.{_≡_};
 ghost use Prim.Native.Nat.{_≤_, _<_};
 ghost use lib.ListN.{length, take};
 ghost use Rattle.records.specs.InsidePlacedLines.{LineEnd, LinesFound, part, At};
+ghost use Rattle.records.specs.InsideLineEnds.{lineEnds};
 ghost use mathlib.Core.Bool.{cond};
 ghost use lib.Dec.{ltb};
 ghost use Rattle.tables.specs.Types.{typeNamed};
@@ -50,6 +51,35 @@ pub fn find_lines(file: &[u8], starts: &mut [usize], ends: &mut [usize]) -> Line
         a = e + 1;
     }
     Lines::Count(n)
+}
+
+// How many bytes 10 stand in few bytes. 16 bits count them, so that many bytes are compared at once.
+fn ends_in(s: &[u8]) -> u16
+    requires { ⌜ length (now s) ≤ 65535 ⌝ }
+    ensures { λ r. ⌜ r ≡ lineEnds (now (s .entry)) ⌝ }
+{
+    let mut count: u16 = 0;
+    let mut i: usize = 0;
+    while i < s.len() {
+        if s[i] == 10 {
+            count += 1;
+        }
+        i += 1;
+    }
+    count
+}
+
+// How many bytes 10 a file has: it has at most one line more. They are counted in blocks, of each of which 16 bits hold the count.
+pub fn line_ends(file: &[u8]) -> usize
+    ensures { λ r. ⌜ r ≡ lineEnds (now (file .entry)) ⌝ }
+{
+    let mut count: usize = 0;
+    let mut a: usize = 0;
+    while 32768 <= file.len() - a {
+        count += ends_in(&file[a..a + 32768]) as usize;
+        a += 32768;
+    }
+    count + ends_in(&file[a..]) as usize
 }
 
 // A record's type is its place among FH, SH, TH, DU, DD, DM, CH, OC, FT, or 9. A line of more than 24 fields has type 9 and count 0.

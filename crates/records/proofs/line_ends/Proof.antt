@@ -1,0 +1,119 @@
+-- `records::line_ends` meets its contract. The loop's invariant: the bytes 10 of the file are those counted and those of the bytes that are left.
+-- Assumes nothing.
+use Rattle.records.specs.InsideLineEnds.{lineEnds}
+use Rattle.records.proofs.LineEnds.{ends-none, ends-part, ends-few}
+use Rattle.records.proofs.Cut.{part-length}
+use lib.ListN.{length, drop}
+use denote.Ref.{now}
+use Prim.Native.Nat.{_+_, _-_, _≤_}
+use native.Mathlib.Nat.{le-refl}
+use mathlib.Core.Path.{_≡_}
+use borrow.Author.Needs.{needs}
+use native.Mathlib.Omega.{arith}
+use Rattle.records.proofs.line_ends.Statement.{statement}
+use Rattle.records.proofs.line_ends.Tie as tie
+
+abbrev Inv-loop : tie.InvT-loop
+Inv-loop file count₀ a₀ count a = (a ≤ length file) × (lineEnds file ≡ count + lineEnds (drop a file))
+
+abbrev μ-loop : tie.MeasureT-loop
+μ-loop file count₀ a₀ count a = length file - a
+
+loop-holds : tie.Need-loop-holds Inv-loop μ-loop
+loop-holds c = omega arith
+
+sub-loop : tie.Need-sub-loop Inv-loop μ-loop
+sub-loop c = search needs
+
+add-ends-in : tie.Need-add-ends-in Inv-loop μ-loop
+add-ends-in c = search needs
+
+sub-ends-in : tie.Need-sub-ends-in Inv-loop μ-loop
+sub-ends-in c = search needs
+
+part-ends-in-start : tie.Need-part-ends-in-start Inv-loop μ-loop
+part-ends-in-start c = search needs
+
+part-ends-in-end : tie.Need-part-ends-in-end Inv-loop μ-loop
+part-ends-in-end c = search needs
+
+ends-in-requires : tie.Need-ends-in-requires Inv-loop μ-loop
+ends-in-requires c κs =
+    let a = c .before .before .loop .a in
+    omega (arith, part-length (now (c .before .before .before .before .args .file)) a (a + 32768) (omega arith))
+
+-- a block more
+more : (c : tie.After-ends-in Inv-loop μ-loop) → lineEnds (now (c .before .before .before .before .before .args .file)) ≡ c .before .before .before .loop .count + c .ends-in .result + lineEnds (drop (c .before .before .before .loop .a + 32768) (now (c .before .before .before .before .before .args .file)))
+more c =
+    let a = c .before .before .before .loop .a in
+    omega (arith, ends-part (now (c .before .before .before .before .before .args .file)) a (a + 32768) (omega arith))
+
+cast-count : tie.Need-cast-count Inv-loop μ-loop
+cast-count c = search needs
+
+add-count : tie.Need-add-count Inv-loop μ-loop
+add-count c = omega (arith, more c, ends-few (now (c .before .before .before .before .before .args .file)))
+
+add-a : tie.Need-add-a Inv-loop μ-loop
+add-a c = search needs
+
+loop-less : tie.Need-loop-less Inv-loop μ-loop
+loop-less c = search needs
+
+loop-again : tie.Need-loop-again Inv-loop μ-loop
+loop-again c = (omega arith, more c)
+
+sub-ends-in-2 : tie.Need-sub-ends-in-2 Inv-loop μ-loop
+sub-ends-in-2 c = search needs
+
+part-ends-in-start-2 : tie.Need-part-ends-in-start-2 Inv-loop μ-loop
+part-ends-in-start-2 c = search needs
+
+part-ends-in-end-2 : tie.Need-part-ends-in-end-2 Inv-loop μ-loop
+part-ends-in-end-2 c = search needs
+
+ends-in-requires-2 : tie.Need-ends-in-requires-2 Inv-loop μ-loop
+ends-in-requires-2 c κs =
+    let f = now (c .before .before .before .before .args .file) in
+    omega (arith, part-length f (c .before .before .loop .a) (length f) (le-refl _))
+
+cast-result : tie.Need-cast-result Inv-loop μ-loop
+cast-result c = search needs
+
+-- the last block
+all : (c : tie.After-ends-in2 Inv-loop μ-loop) → c .before .before .before .loop .count + c .ends-in2 .result ≡ lineEnds (now (c .before .before .before .before .before .args .file))
+all c =
+    let f = now (c .before .before .before .before .before .args .file) in
+    omega (arith, ends-part f (c .before .before .before .loop .a) (length f) (omega arith), ends-none f (length f) (le-refl _))
+
+add-result : tie.Need-add-result Inv-loop μ-loop
+add-result c = omega (arith, all c, ends-few (now (c .before .before .before .before .before .args .file)))
+
+returns : tie.Need-returns Inv-loop μ-loop
+returns c = all c
+
+pub line-ends-spec : {M : Type 1} → statement M
+line-ends-spec =
+    tie.close
+    (tie.spec
+    Inv-loop
+    μ-loop
+    loop-holds
+    sub-loop
+    add-ends-in
+    sub-ends-in
+    part-ends-in-start
+    part-ends-in-end
+    ends-in-requires
+    cast-count
+    add-count
+    add-a
+    loop-less
+    loop-again
+    sub-ends-in-2
+    part-ends-in-start-2
+    part-ends-in-end-2
+    ends-in-requires-2
+    cast-result
+    add-result
+    returns)
