@@ -14,12 +14,10 @@ class Operation:
         made = name + "Reply"
         self.meaning = lambda run: f"{made} ({result} {run} {' '.join(self.numbers)})"
         self.specs = f"""use Rattle.ledger.specs.Ledger.{{{result}}}
-use Rattle.{CRATE}.specs.declared.{reply}.{{{reply}}}
-use Rattle.{CRATE}.specs.Replies.{{{made}}}
-use Rattle.{CRATE}.proofs.{reply} as R
+use Rattle.ledger.specs.declared.{reply}.{{{reply}}}
+use Rattle.ledger.specs.Replies.{{{made}}}
+use Rattle.ledger.proofs.{reply} as R
 """
-        # the same, from the crate of the functions that a host calls
-        self.host_specs = self.specs.replace(f"{CRATE}·specs.specs.", f"{CRATE}.specs.").replace(f"{CRATE}·proofs.proofs.", f"{CRATE}.proofs.")
 
     def kind(self, x):
         return "usize" if x in ("n", "used") else "u64"
@@ -228,7 +226,7 @@ use Rattle.runs.proofs.Runs.{{Load, load-got, load-called}}
 use Rattle.runs.proofs.load.Symbol as load-def
 use Rattle.runs.proofs.load.Symbol.{{name as #load}}
 use Rattle.runs.proofs.load.Met as load-thm
-{o.specs}use Rattle.{CRATE}.proofs.{o.reply}.Laws as R′
+{o.specs}use Rattle.ledger.proofs.{o.reply}.Laws as R′
 {walk_symbols(f'Rattle.{CRATE}.proofs', o.callee)}use Rattle.{CRATE}.proofs.Laws.{{{o.law}}}
 use Rattle.{CRATE}.proofs.{camel(o.callee)}Called.{{{con}, {d}-got, {d}-called}}
 {this_symbols(CRATE, f)}
@@ -391,7 +389,7 @@ def host_walk(o):
 {WALK}use Rattle.runs.proofs.Laws.{{read-cap, read-below, has-room}}
 use Rattle.runs.proofs.Local.{{big-lit, local-typed, local-lent, local-lends, local-back}}
 use Rattle.runs.proofs.Turn.{{tyAt}}
-{o.host_specs}use Rattle.{CRATE}.proofs.{o.reply}.Laws as R′
+{o.specs}use Rattle.ledger.proofs.{o.reply}.Laws as R′
 {walk_symbols(f'Rattle.{CRATE}.proofs', o.inner)}use Rattle.{CRATE}.proofs.{camel(o.inner)}Called.{{{con}, {d}-got, {d}-called}}
 {this_symbols(HOST, f)}use Rattle.{HOST}.proofs.{f}.Code.Mir as parts
 

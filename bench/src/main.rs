@@ -39,7 +39,7 @@ const LINES: [usize; 3] = [256, 1_024, 4_096];
 const USED: [usize; 3] = [1_000, 4_000, 8_000];
 
 /// The entries in use of the ledgers that are read.
-const USED_AND_READ: [usize; 3] = [100, 1_000, 8_000];
+const USED_AND_READ: [usize; 4] = [100, 1_000, 4_000, 8_000];
 
 /// The places of a small run, as the desk's is.
 const SMALL_PLACES: usize = 512;

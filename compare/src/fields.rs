@@ -124,8 +124,6 @@ fn hold_amount(tally: &mut Tally, field: &[u8], precision: u64, places: u64) {
         fields::Amount::Misses => None,
     };
     tally.hold("amount", &(field, precision, places), proved::amount(field, precision, places), expected, expected.is_some());
-    let shaped = fields::is_number(field, narrow(precision), narrow(places));
-    tally.hold("number", &(field, precision, places), proved::is_number(field, precision, places), shaped, shaped);
 }
 
 fn amounts(random: &mut Random) -> u64 {

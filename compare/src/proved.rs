@@ -57,7 +57,6 @@ mod exported {
         pub fn intake_totals(run: *const Entry, places: usize, used: usize) -> Sums;
         pub fn intake_find(run: *const Entry, places: usize, used: usize, site: u64, day: u64) -> Place;
         pub fn comparison_amount(field: *const u8, field_len: usize, precision: u64, places: u64, units: *mut i64) -> u64;
-        pub fn comparison_number(field: *const u8, field_len: usize, precision: u64, places: u64) -> u64;
         pub fn comparison_digits(field: *const u8, field_len: usize, count: u64, value: *mut u64) -> u64;
         pub fn comparison_date_time(field: *const u8, field_len: usize, day: *mut u64, second: *mut u64) -> u64;
         pub fn comparison_shares_day(start: u64, end: u64, other_start: u64, other_end: u64) -> u64;
@@ -127,10 +126,6 @@ pub fn amount(field: &[u8], precision: u64, places: u64) -> Option<i64> {
             None
         }
     }
-}
-
-pub fn is_number(field: &[u8], precision: u64, places: u64) -> bool {
-    unsafe { exported::comparison_number(field.as_ptr(), field.len(), precision, places) == 1 }
 }
 
 /// The value of just `count` digits, or of 1 to 15 where `count` is 0.

@@ -16,7 +16,7 @@ use Rattle.entries.specs.Entries.{isHeld}
 use Rattle.booking.specs.Booking.{fileEntry, cancels, originals, bookCancels, bookOriginals, booked}
 use Rattle.booking.proofs.Added.{cancelAll, ahead, originalEntries, cancels-parts, held-count}
 use Rattle.accepted_entries.specs.InsideAccepted.{Leaves}
-use Rattle.ledger_tests.specs.InsideTests.{Named}
+use Rattle.used_entries.specs.InsideNamed.{Named}
 use Rattle.accepted_entries.proofs.Steps.{drop-later, snoc-set}
 use Rattle.accepted_entries.proofs.Originals.{originals-added}
 

@@ -22,10 +22,10 @@ use Rattle.booking.specs.Booking.{entry, namesEntry, cancelNamed, bookCancels}
 use Rattle.booking.specs.Acceptable.{billAt}
 use Rattle.accepted_entries.specs.InsideAccepted.{withCancel, Leaves}
 use Rattle.file_bills.specs.InsideBills.{isCancel, sourceEntry}
-use Rattle.ledger_tests.specs.InsideTests.{cancelledBy, namedPlace, Named}
+use Rattle.used_entries.specs.InsideNamed.{cancelledBy, namedPlace, Named}
 use Rattle.accepted_entries.proofs.Steps.{left-here, left-past, drop-later, snoc-set, first-ahead}
 use Rattle.file_bills.proofs.Sources.{source-cancel, source-as}
-use Rattle.ledger_tests.proofs.Cancelled.{cancelled-here, cancelled-past, cancel-first}
+use Rattle.used_entries.proofs.Cancelled.{cancelled-here, cancelled-past, cancel-first}
 
 abbrev isY : Bill → Bool
 isY b = b .cancel

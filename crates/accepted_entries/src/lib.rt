@@ -11,7 +11,7 @@ ghost use Rattle.buckets.specs.InsideChains.{ChainRoom};
 ghost use Rattle.used_entries.specs.InsideSited.{BySite};
 ghost use Rattle.booking.specs.Booking.{cancels, originals, fileEntry, bookCancels, bookOriginals, booked};
 ghost use Rattle.file_bills.specs.InsideBills.{fileIn, Source, isCancel};
-ghost use Rattle.ledger_tests.specs.InsideTests.{Named};
+ghost use Rattle.used_entries.specs.InsideNamed.{Named};
 ghost use Rattle.accepted_entries.specs.InsideAccepted.{Leaves, withCancel, stateAfter, withOriginal};
 use entries::Entry;
 

@@ -1,3 +1,4 @@
 pub mod Amounts
 pub mod InsideMagnitudes
+pub mod InsideSigned
 pub mod InsideSums

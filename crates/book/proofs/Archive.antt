@@ -1,6 +1,5 @@
 -- Demand 3 of `book`, on a ledger in words.
 -- Assumes nothing.
-use Prim.Native.Nat.{ℕ}
 use Rattle.booking.specs.declared.Answer.{Answer}
 use Rattle.booking.specs.Booking.{resultOf}
 use Rattle.booking.proofs.Archive.{calls-guaranteed}

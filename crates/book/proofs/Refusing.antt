@@ -4,9 +4,8 @@
 --     refused-ledger                            none of these does, so that the tests that read the ledger decide
 -- Assumes nothing.
 use mathlib.Core.Path.{_≡_, refl, sym, ap, _∙_}
-use mathlib.Core.Bool.{true, false, not}
+use mathlib.Core.Bool.{true, false}
 use mathlib.Core.List.{List, _++_, append-assoc}
-use Prim.Native.Nat.{ℕ}
 use lib.ListN.{length}
 use Rattle.records.specs.Text.{linesOf}
 use Rattle.refusals.specs.declared.Outcome.{Outcome}

@@ -6,7 +6,7 @@ use mathlib.Core.Path.{_≡_, refl, sym, ap, subst}
 use mathlib.Core.Logic.{_↔_, Iff·trans}
 use mathlib.Core.Bool.{Bool, true, false, not, _&&_, cond, true≢false}
 use mathlib.Core.List.{List, [], _∷_, _++_}
-use Prim.Native.Nat.{ℕ, suc, _+_, _≤_, _<_}
+use Prim.Native.Nat.{ℕ, suc, _+_, _≤_}
 use native.Mathlib.Omega.{arith}
 use borrow.Author.Tests.{eqb-true, eq-eqb, ltb-false, le-ltb}
 use lib.Dec.{T, eqb, ltb}
@@ -25,7 +25,7 @@ use Rattle.bill_files.specs.Accepted.{Bill, BillFile}
 use Rattle.bill_files.proofs.Passing.{tests-none}
 use Rattle.entries.specs.declared.Entry.{Entry}
 use Rattle.soundness.specs.Sound.{isSound}
-use Rattle.booking.specs.Booking.{cancelNamed, firstCancel, hasFile, firstUnnamed, firstUnopposed, hasStored, ledgerRefusals, Input, fileOf, ledgerOf, openingRefusals, bookRefusals, bookRefusal, isBooked}
+use Rattle.booking.specs.Booking.{firstCancel, hasFile, firstUnnamed, firstUnopposed, hasStored, ledgerRefusals, Input, fileOf, ledgerOf, openingRefusals, bookRefusals, bookRefusal, isBooked}
 
 -- ════ the order
 

@@ -1,7 +1,7 @@
 -- Soundness' own words for the used entries, and those in which booking is proved to keep them: the same.
 -- Assumes nothing.
-use mathlib.Core.Path.{_≡_, refl, sym, _∙_, ap, subst}
-use mathlib.Core.Logic.{_↔_, _⊎_, inl, inr, ⊎-elim, Iff·trans}
+use mathlib.Core.Path.{_≡_, refl, sym, _∙_, subst}
+use mathlib.Core.Logic.{_↔_, Iff·trans}
 use mathlib.Core.Bool.{true}
 use mathlib.Core.List.{List}
 use Prim.Native.Nat.{ℕ, _≤_, _<_}
@@ -11,10 +11,10 @@ use lib.ListN.{length}
 use Rattle.entries.specs.declared.Entry.{Entry}
 use Rattle.entries.specs.Entries.{entryOf}
 use Rattle.soundness.specs.Sound.{entriesSound}
-use Rattle.soundness.specs.Meaning.{Alike, Names, Opposite, Sound}
+use Rattle.soundness.specs.Meaning.{Names, Opposite, Sound}
 use Rattle.soundness.specs.Meaning as meaning
 use Rattle.soundness.proofs.Meaning.{entries-mean}
-use Rattle.booking.specs.InsideKept.{LiveOn, Paired, EntriesSound}
+use Rattle.booking.specs.InsideKept.{Paired, EntriesSound}
 use Rattle.booking.proofs.Opposites.{opposite-of}
 
 -- ---- a pair

@@ -1,13 +1,12 @@
 -- The lines that tests 39 and 40 answer: the k-th TH or OC of a file stands on the k-th of the file's `lines`.
 -- Assumes nothing.
-use mathlib.Core.Path.{_≡_, refl, sym, ap, _∙_}
+use mathlib.Core.Path.{_≡_, refl, ap, _∙_}
 use mathlib.Core.Bool.{Bool, true, false, cond}
 use mathlib.Core.List.{List, [], _∷_, map}
 use Prim.Native.Nat.{ℕ, zero, suc, _+_, _<_}
 use native.Mathlib.Omega.{arith}
 use lib.ListN.{length, getD}
 use Rattle.lists.specs.Selections.{filter}
-use Rattle.lists.proofs.Selections.{cases}
 use Rattle.format.specs.Format.{lineAt}
 use Rattle.bill_files.specs.Accepted.{Bill, isBill, billIn, billsIn, billLines, billFile}
 

@@ -27,7 +27,7 @@ use Rattle.tables.specs.Tables.{fieldCount, fieldType}
 use Rattle.format.specs.Format.{commodityFields, unitFields, cancelFields, exemptionFields}
 use Rattle.columns.specs.Columns.{fieldTable, fieldOf, numberInColumn, dayInColumn}
 use Rattle.readings.specs.InsideLeadingBytes.{packed}
-use Rattle.readings.specs.InsideAmountReadings.{signedOf}
+use Rattle.amounts.specs.InsideSigned.{signedOf}
 use Rattle.readings.specs.InsideReadings.{Says}
 
 -- ---- the field k of a type, counted from 1, is of a kind; there is no field 0

@@ -19,7 +19,7 @@ use Rattle.records.specs.Records.{field, typeIn}
 use Rattle.tables.specs.Tables.{fieldCount, fieldType}
 use Rattle.columns.specs.Columns.{fieldOf, numberInColumn, dayInColumn, cancelInColumn, inColumn, numberIn, chargeIn, usageIn, charge, usage}
 use Rattle.readings.specs.InsideLeadingBytes.{packed, packedAfter}
-use Rattle.readings.specs.InsideAmountReadings.{signedOf}
+use Rattle.amounts.specs.InsideSigned.{signedOf}
 use Rattle.codes_and_rows.specs.InsideFields.{NumbersRead}
 use Rattle.codes_and_rows.specs.InsideNumbers.{fieldNumber, columnNumber, columnNumbers, columnAmount}
 use Rattle.codes_and_rows.proofs.Texts.{Printable, printable-text, packed-is}

@@ -11,7 +11,7 @@ use Rattle.lists.specs.Written.{written}
 use Rattle.format.specs.Format.{commodityFields, unitFields, cancelFields, exemptionFields}
 use Rattle.columns.specs.Columns.{fieldOf}
 use Rattle.readings.specs.InsideLeadingBytes.{packed}
-use Rattle.readings.specs.InsideAmountReadings.{signedOf}
+use Rattle.amounts.specs.InsideSigned.{signedOf}
 
 -- ---- test 7 by numbers: the number of the field that a list of fields gives a type is that of one of two texts; a type without the field passes
 unfoldable pub isEither : ℕ → List ℕ → List ℕ → List ℕ → Bool

@@ -139,7 +139,7 @@ pub fn store_line(
     let cancel = fields[row][7];
     words[7 * room + i] = if numbers[cancel] == YES { 1 } else { 0 };
     let charge = fields[row][8];
-    charges[i] = readings::signed(numbers[charge]);
+    charges[i] = amounts::signed(numbers[charge]);
     let usage = fields[row][9];
-    usages[i] = readings::signed(numbers[usage]);
+    usages[i] = amounts::signed(numbers[usage]);
 }

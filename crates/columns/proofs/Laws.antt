@@ -21,7 +21,7 @@ use Rattle.digits.specs.Digits.{digitsOf}
 use Rattle.digits.proofs.Laws.{ten-room, digits-say, digits-bound}
 use Rattle.amounts.specs.Amounts.{amountOf, units}
 use Rattle.amounts.proofs.Laws.{units-bound}
-use Rattle.columns.specs.Columns.{numberInColumn, dayInColumn, fieldIn, charge, usage, numberIn, chargeIn, usageIn}
+use Rattle.columns.specs.Columns.{numberInColumn, fieldIn, charge, usage, numberIn, chargeIn, usageIn}
 use Rattle.columns.specs.InsideColumns.{columnAt, ColumnsRead}
 
 -- ---- numbers in columns

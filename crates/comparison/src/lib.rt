@@ -1,7 +1,7 @@
 // What the comparison tests call besides the host's functions: the readings of single fields. A reading answers 0, or 3 where the
 // bytes miss their type; then what stands behind its references is left as it was.
 ghost use mathlib.Core.Path.{_≡_};
-ghost use Rattle.amounts.specs.Amounts.{isNumber, amountOf};
+ghost use Rattle.amounts.specs.Amounts.{amountOf};
 ghost use Rattle.calendar.specs.Calendar.{dateTimeOf};
 ghost use Rattle.comparison.specs.InsideReadings.{flag, amountNumber, unitsAfter, digitsFor, digitsNumber, valueAfter, dateTimeNumber, dayAfter, secondAfter, sharesDayOf};
 use amounts::Amount;
@@ -9,7 +9,7 @@ use calendar::DateTime;
 use calendar::Period;
 use digits::Number;
 
-// The units of an amount of Number(precision, places).
+// The units of an amount of Number(precision, scale).
 #[no_mangle]
 pub extern "C" fn comparison_amount(s: &[u8], precision: u64, scale: u64, units: &mut i64) -> u64
     ensures number { λ r. ⌜ r ≡ amountNumber (amountOf precision scale (now (s .entry))) ⌝ }
@@ -28,14 +28,6 @@ fn one_if(b: bool) -> u64
     ensures { λ r. ⌜ r ≡ flag b ⌝ }
 {
     if b { 1 } else { 0 }
-}
-
-// 1 for bytes with the shape of a Number(precision, places), and 0.
-#[no_mangle]
-pub extern "C" fn comparison_number(s: &[u8], precision: u64, scale: u64) -> u64
-    ensures { λ r. ⌜ r ≡ flag (isNumber precision scale (now (s .entry))) ⌝ }
-{
-    one_if(amounts::is_number(s, precision as usize, scale as usize))
 }
 
 fn digits_for(s: &[u8], n: usize) -> Number

@@ -5,10 +5,10 @@
 --     fixed-say, fixed-same             what is said by just so many digits, and that no other bytes say it
 --     leading-zero                      a leading zero changes no value
 -- Assumes nothing.
-use mathlib.Core.Path.{_≡_, refl, sym, _∙_, ap, subst}
+use mathlib.Core.Path.{_≡_, refl, sym, _∙_, subst}
 use mathlib.Core.List.{List, [], _∷_}
 use mathlib.Core.Bool.{Bool, true, false, cond, _&&_, and-false}
-use Prim.Native.Nat.{ℕ, zero, suc, _+_, _-_, _*_, _^_, _≤_, _<_}
+use Prim.Native.Nat.{ℕ, suc, _+_, _-_, _*_, _^_, _≤_, _<_}
 use native.Mathlib.Nat.{add-zero, zero-add, pow-suc, pow-le-pow-right, lt-of-lt-of-le}
 use native.Mathlib.Numerals.{add-one}
 use native.Mathlib.Omega.{arith}
@@ -16,9 +16,8 @@ use borrow.Author.Tests.{le-leb, lt-leb, leb-true, eqb-true}
 use lib.Dec.{lit<, leb, eqb}
 use lib.ListN.{length, getD, drop, drop-of-length-le}
 use lib.Seq.{drop-cons}
-use Rattle.digits.specs.declared.Number.{Number}
 use Rattle.digits.specs.declared.Number.the-variants.{Value, Other}
-use Rattle.digits.specs.Digits.{isDigit, allDigits, followedBy, numberOf, within, digitsOf, fixedDigitsOf}
+use Rattle.digits.specs.Digits.{isDigit, allDigits, followedBy, numberOf, digitsOf, fixedDigitsOf}
 
 -- one digit more
 pub ten-more : (i : ℕ) {v d : ℕ} → v < 10 ^ i → d < 10 → v * 10 + d < 10 ^ (i + 1)

@@ -2,7 +2,7 @@
 -- Record ID, site, start and end day, charge, usage, state (1 live, 2 held, 3 cancelled, 4 cancel) and the Record ID it cancels."
 -- Assumes nothing.
 use Prim.Native.Nat.{ℕ}
-use mathlib.Core.Bool.{Bool, _&&_, _||_}
+use mathlib.Core.Bool.{Bool}
 use mathlib.Core.List.{List}
 use lib.Dec.{eqb}
 use lib.IntN.{pos}

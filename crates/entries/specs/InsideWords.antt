@@ -1,11 +1,9 @@
 -- How entries stand in two runs of numbers: nine words and two amounts an entry. `entry_at`, `set_entry` and `has_room` alone know this; every other
 -- function asks for `RoomFor` so many entries.
 -- Assumes nothing.
-use Prim.Native.Nat.{ℕ, zero, suc, _+_, _*_, _/_, _≤_}
+use Prim.Native.Nat.{ℕ, zero, suc, _+_, _*_, _≤_}
 use mathlib.Core.List.{List, [], _∷_}
-use mathlib.Core.Bool.{Bool, _&&_}
 use lib.IntN.{ℤ, pos}
-use lib.Dec.{leb}
 use lib.ListN.{length, getD, set}
 use Rattle.entries.specs.declared.Entry.{Entry}
 

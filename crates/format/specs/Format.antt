@@ -1,8 +1,8 @@
 -- Tests 2, 3, 4, 5 and 7 of Table 5-1, as document 01, "Tests", reads them. Each answers the place of the first record that fails, or their number.
 -- Assumes nothing.
 use Prim.Native.Nat.{ℕ, _+_, _-_}
-use mathlib.Core.List.{List, [], _∷_, map}
-use mathlib.Core.Bool.{Bool, true, false, cond, not, _&&_, _||_}
+use mathlib.Core.List.{List, [], _∷_}
+use mathlib.Core.Bool.{Bool, cond, not, _&&_, _||_}
 use lib.ListN.{length, getD}
 use lib.Dec.{eqb, leb}
 use Rattle.lists.specs.Below.{firstBelow, someBelow}

@@ -6,7 +6,7 @@ ghost use lib.Dec.{eqb};
 ghost use lib.ListN.{length};
 ghost use lib.IntN.{pos};
 ghost use Rattle.lists.specs.Below.{someBelow};
-ghost use Rattle.readings.specs.InsideAmountReadings.{signedOf};
+ghost use Rattle.amounts.specs.InsideSigned.{signedOf};
 ghost use Rattle.totals.specs.Totals.{sameℤ};
 ghost use Rattle.headers.specs.Headers.{isValue};
 ghost use Rattle.headers.specs.InsideSteps.{isSender};
@@ -58,10 +58,10 @@ pub fn is_listed(said: u64, distributors: &[u8]) -> bool
     is_among(distributors, said - 1)
 }
 
-// Test 33: whether the record count that the trailer says, as amount_readings holds amounts, is n.
+// Test 33: whether the record count that the trailer says, as a reader has an amount, is n.
 pub fn counts_records(said: u64, n: usize) -> bool
     requires { ⌜ n ≤ 4096 ⌝ }
     ensures { λ r. ⌜ r ≡ sameℤ (signedOf said) (pos n) ⌝ }
 {
-    readings::signed(said) == n as i64
+    amounts::signed(said) == n as i64
 }

@@ -4,7 +4,7 @@
 --     parent-ids         test 10: each record's Parent ID is the Record ID of the nearest earlier record of the type that its own asks for
 --     every-parent       in a file whose types follow each other as test 4 asks, each record but the first hangs under one
 -- Assumes nothing.
-use mathlib.Core.Path.{_≡_, refl, sym, _∙_, ap}
+use mathlib.Core.Path.{_≡_, refl, sym, _∙_}
 use mathlib.Core.Bool.{Bool, true, false, cond, not, _&&_, _||_}
 use mathlib.Core.List.{List}
 use mathlib.Core.Logic.{_↔_}

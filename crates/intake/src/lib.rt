@@ -7,12 +7,12 @@ ghost use Rattle.refusals.specs.Check.{checkOf};
 ghost use Rattle.refusals.specs.Answers.{packed, checkAnswer, dayAnswer, codeAnswer};
 ghost use Rattle.ledger.specs.Ledger.{totalsResult, findResult};
 ghost use Rattle.booking.specs.Booking.{inputOf};
-ghost use Rattle.lent_ledger.specs.Replies.{totalsReply, findReply};
+ghost use Rattle.ledger.specs.Replies.{totalsReply, findReply};
 ghost use Rattle.lent_ledger.specs.BookReplies.{HostBooked};
 use entries::Entry;
+use ledger::FindReply;
+use ledger::TotalsReply;
 use lent_ledger::BookReply;
-use lent_ledger::FindReply;
-use lent_ledger::TotalsReply;
 
 // Check: the first refusal of a file, as its number and line; 0 and 0 when all tests pass.
 #[no_mangle]

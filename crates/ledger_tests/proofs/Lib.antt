@@ -1,4 +1,3 @@
-pub mod Cancelled
 pub mod Naming
 pub mod Opposed
 pub mod Order

@@ -33,8 +33,9 @@ use Rattle.booking.proofs.Added.{length-cancelled}
 use Rattle.used_entries.specs.InsideSearches.{referenceOf, namesAs, namedFirst}
 use Rattle.file_bills.specs.InsideBills.{sourceEntry, isCancel, referenceInColumn}
 use Rattle.file_bills.proofs.Sources.{source-cancel, source-as}
-use Rattle.ledger_tests.specs.InsideTests.{cancelledBy, namedPlace, Named, Marked, names, Tried}
-use Rattle.ledger_tests.proofs.Cancelled.{named-some, named-none, cancel-first, cancelled-here, cancelled-past}
+use Rattle.used_entries.specs.InsideNamed.{cancelledBy, namedPlace, Named}
+use Rattle.ledger_tests.specs.InsideTests.{Marked, names, Tried}
+use Rattle.used_entries.proofs.Cancelled.{named-some, named-none, cancel-first, cancelled-here, cancelled-past}
 use Rattle.ledger_tests.proofs.Resumed.{Resumed, resumed-none, resumed-here, resumed-more}
 
 -- ---- a turn

@@ -18,8 +18,8 @@ use Rattle.booking.specs.Booking.{entry, namedEntry, isUnopposed}
 use Rattle.booking.specs.Acceptable.{billAt}
 use Rattle.file_bills.specs.InsideBills.{sourceEntry, isCancel}
 use Rattle.file_bills.proofs.Sources.{source-cancel, source-as}
-use Rattle.ledger_tests.specs.InsideTests.{cancelledBy, Named}
-use Rattle.ledger_tests.proofs.Cancelled.{named-some, cancelled-length, cancelled-amounts}
+use Rattle.used_entries.specs.InsideNamed.{cancelledBy, Named}
+use Rattle.used_entries.proofs.Cancelled.{named-some, cancelled-length, cancelled-amounts}
 
 abbrev pub unopposedIn : List Entry → Bill → Bool
 unopposedIn l c = isUnopposed c (namedEntry c l)

@@ -3,7 +3,7 @@
 --     bill-fails, bill-passes                           a test that answers the place of the first failing TH or OC, or their number
 --     refused-file, refused-cancels, refused-storage    8; 39 and 40; 102 and 101
 -- Assumes nothing.
-use mathlib.Core.Path.{_≡_, sym, ap, _∙_}
+use mathlib.Core.Path.{_≡_, ap, _∙_}
 use mathlib.Core.Bool.{Bool, true, false, _&&_}
 use mathlib.Core.List.{List, _∷_}
 use Prim.Native.Nat.{ℕ, _≤_, _<_}

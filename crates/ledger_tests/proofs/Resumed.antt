@@ -14,8 +14,8 @@ use Rattle.bill_files.specs.Accepted.{Bill}
 use Rattle.entries.specs.declared.Entry.{Entry}
 use Rattle.booking.specs.Booking.{cancelNamed, firstCancel}
 use Rattle.booking.specs.Acceptable.{noBill, billAt}
-use Rattle.ledger_tests.specs.InsideTests.{cancelledBy}
-use Rattle.ledger_tests.proofs.Cancelled.{cancelled-here, cancelled-past}
+use Rattle.used_entries.specs.InsideNamed.{cancelledBy}
+use Rattle.used_entries.proofs.Cancelled.{cancelled-here, cancelled-past}
 
 module _ (fails : List Entry → Bill → Bool) (l : List Entry) (bills : List Bill) where
   abbrev now : ℕ → List Entry

@@ -9,7 +9,8 @@ ghost use Rattle.booking.specs.Booking.{hasStored, firstUnnamed, firstUnopposed
 ghost use Rattle.used_entries.specs.InsideKeyed.{ByKey};
 ghost use Rattle.used_entries.specs.InsideSearches.{namedFirst};
 ghost use Rattle.file_bills.specs.InsideBills.{fileIn, Source, References, isCancel};
-ghost use Rattle.ledger_tests.specs.InsideTests.{Named, Tried};
+ghost use Rattle.used_entries.specs.InsideNamed.{Named};
+ghost use Rattle.ledger_tests.specs.InsideTests.{Tried};
 ghost use Rattle.refusals.specs.Refusals.{firstRefusal};
 ghost use Rattle.ledger_tests.specs.InsideBills.{Bills};
 use entries::Entry;

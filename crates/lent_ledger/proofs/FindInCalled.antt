@@ -34,9 +34,9 @@ use Rattle.entries.proofs.Entry as T
 use Rattle.soundness.specs.InsideRoom.{readCount}
 use Rattle.runs.proofs.Lent.{cites-by, words, lent, said, lends-got, lends-says, lends}
 use Rattle.ledger.specs.Ledger.{findResult}
-use Rattle.lent_ledger.specs.declared.FindReply.{FindReply}
-use Rattle.lent_ledger.specs.Replies.{findReply}
-use Rattle.lent_ledger.proofs.FindReply as R
+use Rattle.ledger.specs.declared.FindReply.{FindReply}
+use Rattle.ledger.specs.Replies.{findReply}
+use Rattle.ledger.proofs.FindReply as R
 use Rattle.lent_ledger.proofs.find_in as find-in
 use Rattle.lent_ledger.proofs.find_in.Symbol.{name as #find-in}
 

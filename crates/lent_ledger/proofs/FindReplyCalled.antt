@@ -32,9 +32,9 @@ use Rattle.entries.specs.InsideWords.{RoomFor, entriesOf}
 use Rattle.soundness.specs.InsideRoom.{readCount}
 use Rattle.runs.proofs.Lent.{cites, words, shared, shares-got, shares-says, shares}
 use Rattle.ledger.specs.Ledger.{findResult}
-use Rattle.lent_ledger.specs.declared.FindReply.{FindReply}
-use Rattle.lent_ledger.specs.Replies.{findReply}
-use Rattle.lent_ledger.proofs.FindReply as R
+use Rattle.ledger.specs.declared.FindReply.{FindReply}
+use Rattle.ledger.specs.Replies.{findReply}
+use Rattle.ledger.proofs.FindReply as R
 use Rattle.lent_ledger.proofs.find_reply as find-reply
 use Rattle.lent_ledger.proofs.find_reply.Symbol.{name as #find-reply}
 

@@ -12,7 +12,7 @@ use Rattle.entries.specs.InsideWords.{entriesOf}
 use Rattle.soundness.specs.InsideRoom.{readCount}
 use Rattle.ledger.specs.Ledger.{sumsOf, noSums, totalsResult, isAskable, placeOf, placeWithin, findResultOf, findResult}
 use Rattle.runs.proofs.Sound.{loaded-alike}
-use Rattle.lent_ledger.specs.Replies.{totalsReply, findReply}
+use Rattle.ledger.specs.Replies.{totalsReply, findReply}
 
 module _ (ns : List ℕ) (zs : List ℤ) (ys : List Entry) (used : ℕ) (loaded : entriesOf ns zs (readCount (length ys) used) ≡ take (readCount (length ys) used) ys) where
   abbrev es : List Entry

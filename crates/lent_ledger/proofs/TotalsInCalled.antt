@@ -34,9 +34,9 @@ use Rattle.entries.proofs.Entry as T
 use Rattle.soundness.specs.InsideRoom.{readCount}
 use Rattle.runs.proofs.Lent.{cites-by, words, lent, said, lends-got, lends-says, lends}
 use Rattle.ledger.specs.Ledger.{totalsResult}
-use Rattle.lent_ledger.specs.declared.TotalsReply.{TotalsReply}
-use Rattle.lent_ledger.specs.Replies.{totalsReply}
-use Rattle.lent_ledger.proofs.TotalsReply as R
+use Rattle.ledger.specs.declared.TotalsReply.{TotalsReply}
+use Rattle.ledger.specs.Replies.{totalsReply}
+use Rattle.ledger.proofs.TotalsReply as R
 use Rattle.lent_ledger.proofs.totals_in as totals-in
 use Rattle.lent_ledger.proofs.totals_in.Symbol.{name as #totals-in}
 

@@ -32,9 +32,9 @@ use Rattle.entries.specs.InsideWords.{RoomFor, entriesOf}
 use Rattle.soundness.specs.InsideRoom.{readCount}
 use Rattle.runs.proofs.Lent.{cites, words, shared, shares-got, shares-says, shares}
 use Rattle.ledger.specs.Ledger.{totalsResult}
-use Rattle.lent_ledger.specs.declared.TotalsReply.{TotalsReply}
-use Rattle.lent_ledger.specs.Replies.{totalsReply}
-use Rattle.lent_ledger.proofs.TotalsReply as R
+use Rattle.ledger.specs.declared.TotalsReply.{TotalsReply}
+use Rattle.ledger.specs.Replies.{totalsReply}
+use Rattle.ledger.proofs.TotalsReply as R
 use Rattle.lent_ledger.proofs.totals_reply as totals-reply
 use Rattle.lent_ledger.proofs.totals_reply.Symbol.{name as #totals-reply}
 

@@ -13,12 +13,11 @@
 use mathlib.Core.Path.{_≡_, refl, sym, _∙_, ap, subst}
 use mathlib.Core.Bool.{Bool, true, false, cond, true≢false}
 use Prim.Native.Nat.{ℕ, zero, suc, _+_, _-_, _≤_, _<_}
-use native.Mathlib.Nat.{zero-add, add-zero, add-suc, suc-add, le-refl, suc-sub-suc, sub-zero}
+use native.Mathlib.Nat.{add-zero, le-refl, sub-zero}
 use native.Mathlib.Numerals.{add-one}
 use native.Mathlib.Omega.{arith}
 use native.Mathlib.Decide.{decLt}
 use borrow.Author.Tests.{lt-ltb, le-ltb, ltb-true, ltb-false}
-use lib.Dec.{ltb}
 use Rattle.lists.specs.Below.{firstFrom, firstBelow, someBelow, nearestBelow, countBelow}
 
 split : (n i : ℕ) → i < n → n - i ≡ suc (n - suc i)

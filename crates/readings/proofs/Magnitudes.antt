@@ -24,7 +24,8 @@ use Rattle.readings.specs.declared.Reading.{Reading}
 use Rattle.readings.specs.InsideLeadingBytes.{fieldEnd, Ends, DigitsRead}
 use Rattle.readings.proofs.Ends.{ends-there, end-more, end-after, digits-before}
 use Rattle.readings.proofs.Runs.{run-bound}
-use Rattle.readings.specs.InsideAmountReadings.{signedOf, WholeRead, MagnitudeRead}
+use Rattle.amounts.specs.InsideSigned.{signedOf}
+use Rattle.readings.specs.InsideAmountReadings.{WholeRead, MagnitudeRead}
 
 -- ---- where the point stands
 pub not-point : (b : ℕ) (s : List ℕ) → isDigit b && allDigits s ≡ true → (eqb b 46 ≡ false) × (allDigits s ≡ true)

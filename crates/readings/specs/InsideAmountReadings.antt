@@ -1,22 +1,16 @@
 -- What is read of an amount that stands at the start of a line's bytes: where the field ends, and what it says as one number.
 -- Assumes nothing.
-use Prim.Native.Nat.{ℕ, _+_, _/_, _%_, _^_, _≤_, _<_}
+use Prim.Native.Nat.{ℕ, _+_, _^_, _≤_, _<_}
 use mathlib.Core.Path.{_≡_}
 use mathlib.Core.List.{List}
 use mathlib.Core.Bool.{true, false}
-use lib.IntN.{ℤ}
 use lib.ListN.{length, take}
-use lib.Dec.{eqb}
 use Rattle.digits.specs.Digits.{allDigits, numberOf}
-use Rattle.amounts.specs.Amounts.{isUnsigned, unitsOf, signed}
+use Rattle.amounts.specs.Amounts.{isUnsigned, unitsOf}
 use Rattle.readings.specs.declared.Reading.{Reading}
 use Rattle.readings.specs.InsideLeadingBytes.{fieldEnd, leadingField}
 
--- an amount as one number: its size twice, and one more for a minus
-unfoldable pub signedOf : ℕ → ℤ
-signedOf n = signed (eqb (n % 2) 1) (n / 2)
-
--- what is read of an amount without its sign at the start of s: `whole` digits at most, then optionally a point and up to `places` digits
+-- what is read of an amount without its sign at the start of s: `whole` digits at most, then optionally a point and up to `scale` digits
 pub record MagnitudeRead (whole scale : ℕ) (s : List ℕ) (r : Reading) : Type 0 where
   pub ends : r .len ≡ fieldEnd s
   pub fits : isUnsigned whole scale (leadingField s) ≡ true

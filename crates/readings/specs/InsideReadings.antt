@@ -14,7 +14,7 @@ use Rattle.fields.specs.Fields.{fitsType}
 use Rattle.columns.specs.Columns.{numberInColumn, dayInColumn}
 use Rattle.readings.specs.declared.Reading.{Reading}
 use Rattle.readings.specs.InsideLeadingBytes.{fieldEnd, leadingField, packed}
-use Rattle.readings.specs.InsideAmountReadings.{signedOf}
+use Rattle.amounts.specs.InsideSigned.{signedOf}
 
 -- the number n says what stands in the field f of a type. A number that no test reads says nothing.
 unfoldable pub Says : FieldType → List ℕ → ℕ → Type 0

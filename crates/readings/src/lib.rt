@@ -6,7 +6,7 @@ ghost use mathlib.Core.List.{List};
 ghost use Prim.Native.Nat.{ℕ, _≤_, _<_, _+_, _*_, _-_, _^_};
 ghost use lib.ListN.{length, getD};
 ghost use Rattle.readings.specs.InsideLeadingBytes.{Ends, DigitsRead, AllRead, TextRead};
-ghost use Rattle.readings.specs.InsideAmountReadings.{signedOf, WholeRead, MagnitudeTold};
+ghost use Rattle.readings.specs.InsideAmountReadings.{WholeRead, MagnitudeTold};
 ghost use Rattle.calendar.specs.InsideFirstDays.{firstDays};
 ghost use Rattle.fields.specs.declared.FieldType.the-variants.{RecordId, Digits, Number, Date, DateTime, Char, Varchar};
 ghost use Rattle.tables.specs.InsideCodes.{typeOfCode};
@@ -214,17 +214,6 @@ pub fn read_magnitude(s: &[u8], whole: usize, scale: usize) -> Reading
         return misses();
     }
     read_places(s, run.value, p, whole, scale)
-}
-
-// The amount that a number says.
-pub fn signed(number: u64) -> i64
-    ensures { λ r. ⌜ r ≡ signedOf number ⌝ }
-{
-    let size = (number / 2) as i64;
-    if number % 2 == 1 {
-        return 0 - size;
-    }
-    size
 }
 
 // The ID that some digits at the start of s are, where they end the field.

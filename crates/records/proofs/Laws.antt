@@ -24,7 +24,7 @@ use Rattle.records.specs.InsidePlacedLines.{part, Placed, At}
 use Rattle.records.specs.Text.{fieldsOf}
 use Rattle.records.proofs.Placed.{placed-at}
 use Rattle.records.specs.Records.{recordFields, field, typeIn}
-use Rattle.records.specs.InsidePlacedFields.{numberAmong, fieldAmong, fieldsAt, FieldsPlaced, RecordFound}
+use Rattle.records.specs.InsidePlacedFields.{numberAmong, fieldAmong, FieldsPlaced, RecordFound}
 use Rattle.records.specs.declared.Record.{Record}
 
 pub fields-few : (line : List ℕ) → length (fieldsOf line) ≤ 24 → recordFields line ≡ fieldsOf line

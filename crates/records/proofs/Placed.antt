@@ -2,17 +2,17 @@
 -- Assumes nothing.
 use mathlib.Core.Path.{_≡_, refl, sym, _∙_, ap, ap₂, subst}
 use mathlib.Core.List.{List, [], _∷_, _++_, append-assoc, append-nil}
-use mathlib.Core.Bool.{Bool, true, false, cond, _&&_}
+use mathlib.Core.Bool.{Bool, true, false, _&&_}
 use Prim.Native.Nat.{ℕ, zero, suc, _+_, _-_, _≤_, _<_, zero-le}
-use native.Mathlib.Nat.{le-refl, le-of-suc-le-suc, not-suc-le-zero, zero-add, add-zero, suc-add}
+use native.Mathlib.Nat.{le-of-suc-le-suc, add-zero}
 use native.Mathlib.Numerals.{add-one}
 use native.Mathlib.Omega.{arith}
 use borrow.Author.Tests.{le-leb}
 use lib.Dec.{T, leb, leb→le}
-use lib.ListN.{length, getD, take, drop, set, length-append, length-set}
+use lib.ListN.{length, getD, take, set, length-append, length-set}
 use lib.Seq.{take-suc-set, length-take-le, getD-take}
 use Rattle.lists.proofs.Table.{and-left, and-right}
-use Rattle.records.specs.InsidePlacedLines.{part, parts, within, Placed, At, placedLines, LinesPlaced}
+use Rattle.records.specs.InsidePlacedLines.{part, parts, within, Placed, At}
 
 parts-snoc : (s bs es : List ℕ) (a e : ℕ) → length bs ≡ length es → parts s (bs ++ (a ∷ [])) (es ++ (e ∷ [])) ≡ parts s bs es ++ (part s a e ∷ [])
 parts-snoc s [] [] a e h = refl

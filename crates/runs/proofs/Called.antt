@@ -19,14 +19,14 @@ use prog.Routine.{Routine}
 use prog.Wp.{Heap, Calls}
 use ghost.Atoms.{Atoms, sem}
 use contract.Monad.{Fun, fact}
-use types.Kit.{Given, Item, ‵, raw, given, _⊛_, some, later, mean, ⋆, _$_, _∵_, !, qed, by, move, keep, use1, use2, split, join, group, pick, fsplit, fjoin, feqL, frame, suffices, await, updating, check, show, now as at-once, done}
+use types.Kit.{Given, Item, ‵, raw, given, _⊛_, some, later, mean, ⋆, _$_, _∵_, !, qed, move, keep, use1, split, join, group, pick, fsplit, fjoin, feqL, frame, suffices, await, updating, check, show, now as at-once, done}
 use sound.WpLaws.{FmC}
 use denote.RattleType.{owns}
 use denote.Laws.{Is, shows}
 use denote.Plain.{uint-makes, Nothing}
 use denote.Builtin.{u64, i64, usize}
 use denote.Ref.{RefT}
-use denote.Slice.{sliceVal, ShrSlice, MutSlice, Room, shr-slice-copy}
+use denote.Slice.{sliceVal, ShrSlice, Room, shr-slice-copy}
 use denote.Steps.{only, owned, facts, heard, nothing}
 use denote.Struct.Laws as LL
 use denote.Triple.Spec.{tripleOf}

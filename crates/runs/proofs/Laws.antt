@@ -4,11 +4,10 @@
 --     taken                where the first n entries of the words are a list's, they are as many entries of the list
 --     placed-is            a run whose places from..to are the words', and the others as they were
 -- Assumes nothing.
-use mathlib.Core.Path.{_≡_, refl, sym, ap, subst, _∙_}
+use mathlib.Core.Path.{_≡_, sym, ap, subst, _∙_}
 use mathlib.Core.Bool.{Bool, cond}
 use mathlib.Core.List.{List, _++_, append-assoc}
 use Prim.Native.Nat.{ℕ, _+_, _-_, _≤_, _<_, zero-le}
-use native.Mathlib.Nat.{le-refl, sub-add-cancel}
 use native.Mathlib.Omega.{arith}
 use lib.IntN.{ℤ}
 use lib.ListN.{length, getD, take, drop, take-append-drop, length-drop}
@@ -16,7 +15,7 @@ use lib.Seq.{getD-take, getD-drop, length-take-le, ext-getD, take-take}
 use Rattle.entries.specs.declared.Entry.{Entry}
 use Rattle.entries.specs.Entries.{blank}
 use Rattle.entries.specs.InsideWords.{wordsFor, amountsFor, RoomFor, entryAt, entriesOf}
-use Rattle.entries.proofs.Words.{entries-are, length-entries, entry-of}
+use Rattle.entries.proofs.Words.{entries-are}
 use Rattle.lists.proofs.Selections.{cases}
 use Rattle.soundness.specs.Sound.{sizesFit}
 use Rattle.soundness.specs.InsideRoom.{readCount}

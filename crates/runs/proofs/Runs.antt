@@ -2,7 +2,7 @@
 --     load-called          the words, the run and its token       ⊢ ⇛ C load (…) (λ w. ⇛ (⌜w is how many⌝; the words, at lists that decode to as many entries of the run; the run and its token))
 --     store-called         the words, a run `&mut` and its token  ⊢ ⇛ C store (…) (λ w. ⇛ (the words as they were; what says the run's last list, and its token)): the run is given up for good
 -- Assumes `Given`, that the table of calls is monotone under a frame, and that its entry meets the callee's contract.
-use mathlib.Core.Path.{_≡_, refl, subst, sym, ap, _∙_}
+use mathlib.Core.Path.{_≡_, refl, sym, ap, _∙_}
 use Prim.Native.Nat.{ℕ, _≤_, _<_, _^_}
 use mathlib.Core.List.{[], _∷_, List}
 use lib.IntN.{ℤ}
@@ -18,7 +18,7 @@ use prog.Routine.{Routine}
 use prog.Wp.{Heap, Calls}
 use ghost.Atoms.{Atoms, sem}
 use contract.Monad.{Fun, fact}
-use types.Kit.{Given, Item, ‵, raw, given, _⊛_, some, later, mean, ⋆, _$_, _∵_, !, qed, by, move, keep, use1, use2, split, join, group, rewrite, pick, fsplit, fjoin, feqL, frame, await, updating, check, show, now as at-once, done}
+use types.Kit.{Given, Item, ‵, raw, given, _⊛_, some, later, mean, ⋆, _$_, _∵_, !, qed, move, keep, use1, split, join, group, rewrite, pick, fsplit, fjoin, feqL, frame, await, updating, check, show, now as at-once, done}
 use sound.WpLaws.{FmC}
 use denote.Laws.{Is}
 use denote.Plain.{uint-makes, Nothing}
@@ -34,7 +34,7 @@ use Rattle.entries.specs.declared.Entry.{Entry}
 use Rattle.entries.specs.InsideWords.{RoomFor, entriesOf}
 use Rattle.soundness.specs.InsideRoom.{readCount}
 use Rattle.runs.specs.InsideCopies.{placed}
-use Rattle.runs.proofs.Lent.{cites, cites-by, words, tokens, lent, said, shared, lends-got, lends-says, lends, shares-got, shares-says, shares}
+use Rattle.runs.proofs.Lent.{cites, cites-by, words, lent, said, shared, lends-got, lends-says, lends, shares-got, shares-says, shares}
 use Rattle.entries.proofs.Entry as T
 use Rattle.runs.proofs.load as load
 use Rattle.runs.proofs.load.Symbol.{name as #runs·load}

@@ -4,7 +4,7 @@
 --     keys-differ, key-repeats  where no key repeats, no sender and Record ID pair does; where one does, the ledger is not sound
 --     misfit                    nor is it where an entry doesn't fit by itself
 -- Assumes nothing.
-use mathlib.Core.Path.{_≡_, sym, _∙_, subst}
+use mathlib.Core.Path.{_≡_, sym, _∙_}
 use mathlib.Core.List.{List}
 use mathlib.Core.Bool.{false, true≢false}
 use Prim.Native.Nat.{ℕ, _+_, _^_, _<_}

@@ -5,7 +5,7 @@
 --     answer-is                       what is answered of its entries is what is asked of the run
 --     zero-room                       columns of zeros are long enough, and hold no place and no mark
 -- Assumes nothing.
-use mathlib.Core.Path.{_≡_, refl, sym, _∙_, subst}
+use mathlib.Core.Path.{_≡_, refl, sym, subst}
 use mathlib.Core.List.{List}
 use mathlib.Core.Bool.{Bool, true, false}
 use Prim.Native.Nat.{ℕ, _+_, _*_, _≤_, _<_}

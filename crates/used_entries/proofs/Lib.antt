@@ -1,2 +1,3 @@
+pub mod Cancelled
 pub mod Laws
 pub mod Sites

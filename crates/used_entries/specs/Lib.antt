@@ -1,3 +1,4 @@
 pub mod InsideKeyed
+pub mod InsideNamed
 pub mod InsideSearches
 pub mod InsideSited

@@ -14,7 +14,7 @@ use Rattle.entries.proofs.Words.{length-entries, take-entries}
 use Rattle.entries.proofs.Room.{room-fewer}
 use Rattle.booking.specs.Booking.{Input, inputOf}
 use Rattle.file_bills.specs.InsideBills.{fileIn}
-use Rattle.ledger_tests.specs.InsideTests.{Named}
+use Rattle.used_entries.specs.InsideNamed.{Named}
 use Rattle.book.proofs.Answers.{refuses, accepts}
 use Rattle.book.proofs.Refusing.{ledgerTests, refused-ledger}
 use Rattle.book.proofs.Rooms.{same-tests}

@@ -1,6 +1,6 @@
 -- `book::book_in_room` meets its contract: tests 2 to 38 over the lines, and then what they say.
 -- Assumes nothing.
-use mathlib.Core.Path.{_≡_, sym, ap, _∙_}
+use mathlib.Core.Path.{sym, ap, _∙_}
 use denote.Ref.{now}
 use Rattle.refusals.specs.declared.Outcome.{Outcome}
 use Rattle.entries.specs.InsideWords.{entriesOf}

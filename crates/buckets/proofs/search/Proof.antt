@@ -1,7 +1,7 @@
 -- `buckets::search` meets its contract. The loop's invariant: the search has passed slots of other values; each step goes to a later place.
 -- Assumes nothing.
 use Prim.Native.Nat.{_+_, _-_, _*_, _%_}
-use mathlib.Core.Path.{_≡_, refl}
+use mathlib.Core.Path.{refl}
 use borrow.Author.Needs.{needs}
 use native.Mathlib.Omega.{arith}
 use Rattle.buckets.proofs.Trees.{Walked, distance, walk-start, walk-more, walk-closer, walk-found, walk-end}

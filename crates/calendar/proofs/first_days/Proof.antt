@@ -1,6 +1,6 @@
 -- `calendar::first_days` meets its contract: the constant computes to the list that the rule makes.
 -- Assumes nothing.
-use mathlib.Core.Path.{_≡_, refl}
+use mathlib.Core.Path.{refl}
 use Rattle.calendar.specs.Calendar.{monthDays}
 use Rattle.calendar.specs.InsideFirstDays.{daysFrom, firstDays}
 use Rattle.calendar.proofs.first_days.Statement.{statement}

@@ -3,7 +3,7 @@
 use Prim.Native.Nat.{_%_}
 use Rattle.calendar.specs.Calendar.{monthDays}
 use mathlib.Core.Logic.{⊎-elim, inl, inr}
-use mathlib.Core.Path.{_≡_, sym, _∙_}
+use mathlib.Core.Path.{sym, _∙_}
 use borrow.Author.Tests.{eq-eqb, ne-eqb}
 use borrow.Author.Needs.{needs}
 use Rattle.calendar.proofs.month_days.Statement.{statement}

@@ -1,7 +1,7 @@
 -- `calendar::read_day` meets its contract: by cases on what the digits say.
 -- Assumes nothing.
 use Rattle.calendar.specs.Calendar.{dayOf}
-use mathlib.Core.Path.{_≡_, sym}
+use mathlib.Core.Path.{sym}
 use borrow.Author.Tests.{eq-eqb, ne-eqb}
 use borrow.Author.Needs.{needs}
 use Rattle.calendar.proofs.read_day.Statement.{statement}

@@ -11,7 +11,7 @@ use lib.IntN.{ℤ}
 use lib.Dec.{lit<}
 use lib.ListN.{length, getD, set, length-set}
 use Rattle.lists.proofs.Signed.{value-kept}
-use Rattle.readings.specs.InsideAmountReadings.{signedOf}
+use Rattle.amounts.specs.InsideSigned.{signedOf}
 use Rattle.columns.proofs.Rows.{field-lent, column-inside, row-more}
 use Rattle.columns.specs.InsideRows.{RowStored}
 use Rattle.columns.specs.Columns.{fieldOf}

@@ -4,7 +4,7 @@
 use mir.Syntax.{w64}
 use mir.Val.{SFits}
 use mir.Facts.{toZ-ofZ}
-use mathlib.Core.Path.{_≡_, sym, _∙_}
+use mathlib.Core.Path.{sym, _∙_}
 use borrow.Author.Needs.{needs}
 use Rattle.comparison.proofs.comparison_amount.Statement.{statement}
 use Rattle.comparison.proofs.comparison_amount.Tie as tie

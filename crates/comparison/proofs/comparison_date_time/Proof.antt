@@ -1,6 +1,6 @@
 -- `comparison::comparison_date_time` meets its contract: it stores and answers what `dates::date_time_of` read.
 -- Assumes nothing.
-use mathlib.Core.Path.{_≡_, sym, _∙_}
+use mathlib.Core.Path.{sym, _∙_}
 use borrow.Author.Needs.{needs}
 use Rattle.comparison.proofs.comparison_date_time.Statement.{statement}
 use Rattle.comparison.proofs.comparison_date_time.Tie as tie

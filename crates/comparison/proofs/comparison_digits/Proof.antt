@@ -1,6 +1,6 @@
 -- `comparison::comparison_digits` meets its contract: it stores and answers what `digits_for` read.
 -- Assumes nothing.
-use mathlib.Core.Path.{_≡_, sym, _∙_}
+use mathlib.Core.Path.{sym, _∙_}
 use borrow.Author.Needs.{needs}
 use Rattle.comparison.proofs.comparison_digits.Statement.{statement}
 use Rattle.comparison.proofs.comparison_digits.Tie as tie

@@ -1,6 +1,6 @@
 -- `comparison::comparison_shares_day` meets its contract: it answers 1 or 0 by what `calendar::Period::shares_day` tells of the two periods.
 -- Assumes nothing.
-use mathlib.Core.Path.{_≡_, _∙_, ap}
+use mathlib.Core.Path.{_∙_, ap}
 use Rattle.comparison.specs.InsideReadings.{flag}
 use borrow.Author.Needs.{needs}
 use Rattle.comparison.proofs.comparison_shares_day.Statement.{statement}

@@ -1,6 +1,5 @@
 -- `comparison::digits_for` meets its contract: each arm asks the reading that the definition names for n.
 -- Assumes nothing.
-use mathlib.Core.Path.{_≡_}
 use borrow.Author.Tests.{eq-eqb, ne-eqb}
 use borrow.Author.Needs.{needs}
 use Rattle.comparison.proofs.digits_for.Statement.{statement}

@@ -1,7 +1,6 @@
 -- `desk_answer::code_number` meets its contract: the two cases of what `codes::code_of` answers.
 -- Assumes nothing.
 use borrow.Author.Needs.{needs}
-use mathlib.Core.Path.{_≡_}
 use Rattle.desk_answer.specs.Line.{codeNumber}
 use Rattle.desk_answer.proofs.code_number.Statement.{statement}
 use Rattle.desk_answer.proofs.code_number.Tie as tie

@@ -1,7 +1,6 @@
 -- `desk_answer::write_line` meets its contract: each case of the answer has one of the two lines.
 -- Assumes nothing.
 use borrow.Author.Needs.{needs}
-use mathlib.Core.Path.{_≡_}
 use Rattle.desk_answer.proofs.Lines.{accepted-is, rejected-is, zero-is}
 use Rattle.desk_answer.proofs.write_line.Statement.{statement}
 use Rattle.desk_answer.proofs.write_line.Tie as tie

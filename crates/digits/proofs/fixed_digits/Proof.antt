@@ -1,6 +1,5 @@
 -- `digits::fixed_digits` meets its contract: another number of bytes is none, and the rest is `digits`.
 -- Assumes nothing.
-use mathlib.Core.Path.{_≡_}
 use borrow.Author.Tests.{eq-eqb, ne-eqb}
 use Rattle.digits.specs.Digits.{fixedDigitsOf}
 use borrow.Author.Needs.{needs}

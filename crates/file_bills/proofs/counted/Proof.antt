@@ -1,7 +1,7 @@
 -- `file_bills::counted` meets its contract.
 -- Assumes nothing.
 use mathlib.Core.Bool.{Bool, cond}
-use mathlib.Core.Path.{_≡_, sym, ap}
+use mathlib.Core.Path.{sym, ap}
 use lib.IntN.{pos}
 use Rattle.lists.proofs.Signed.{value-kept}
 use Rattle.file_bills.proofs.counted.Statement.{statement}

@@ -5,7 +5,7 @@ use Rattle.lists.proofs.Below.{Searched, searched-none, searched-more, searched
 use lib.ListN.{length}
 use denote.Ref.{now}
 use Prim.Native.Nat.{_-_, _≤_}
-use mathlib.Core.Path.{_≡_, sym, _∙_}
+use mathlib.Core.Path.{sym, _∙_}
 use borrow.Author.Needs.{needs}
 use native.Mathlib.Omega.{arith}
 use Rattle.format.proofs.first_misplaced.Statement.{statement}

@@ -2,7 +2,7 @@
 -- Assumes nothing.
 use Rattle.format.specs.Format.{unformatted}
 use borrow.Author.Tests.{le-leb, lt-leb}
-use mathlib.Core.Path.{_≡_, sym, _∙_}
+use mathlib.Core.Path.{sym, _∙_}
 use borrow.Author.Needs.{needs}
 use Rattle.format.proofs.is_unformatted.Statement.{statement}
 use Rattle.format.proofs.is_unformatted.Tie as tie

@@ -1,6 +1,5 @@
 -- `headers::is_number` meets its contract: the number of the variant, or none.
 -- Assumes nothing.
-use mathlib.Core.Path.{_≡_}
 use borrow.Author.Needs.{needs}
 use Rattle.headers.proofs.is_number.Statement.{statement}
 use Rattle.headers.proofs.is_number.Tie as tie

@@ -1,6 +1,5 @@
 -- `identity::is_unlike` meets its contract: each answer goes by whether there is a place.
 -- Assumes nothing.
-use mathlib.Core.Path.{_≡_}
 use borrow.Author.Tests.{eq-eqb, ne-eqb}
 use borrow.Author.Needs.{needs}
 use Rattle.identity.proofs.is_unlike.Statement.{statement}

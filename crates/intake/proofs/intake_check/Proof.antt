@@ -2,11 +2,10 @@
 -- Assumes nothing.
 use Rattle.refusals.specs.Answers.{packed, checkAnswer}
 use Rattle.refusals.proofs.Outcomes.{check-small}
-use Rattle.refusals.specs.Check.{checkOf}
 use Rattle.refusals.specs.declared.Outcome.{Outcome}
 use denote.Ref.{now}
-use Prim.Native.Nat.{ℕ, _≤_}
-use mathlib.Core.Path.{_≡_, sym, _∙_, ap}
+use Prim.Native.Nat.{_≤_}
+use mathlib.Core.Path.{ap}
 use borrow.Author.Needs.{needs}
 use native.Mathlib.Omega.{arith}
 use Rattle.intake.proofs.intake_check.Statement.{statement}

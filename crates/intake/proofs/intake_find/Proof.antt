@@ -49,10 +49,10 @@ use Rattle.runs.proofs.Laws.{read-cap, read-below, has-room}
 use Rattle.runs.proofs.Local.{big-lit, local-typed, local-lent, local-lends, local-back}
 use Rattle.runs.proofs.Turn.{tyAt}
 use Rattle.ledger.specs.Ledger.{findResult}
-use Rattle.lent_ledger.specs.declared.FindReply.{FindReply}
-use Rattle.lent_ledger.specs.Replies.{findReply}
-use Rattle.lent_ledger.proofs.FindReply as R
-use Rattle.lent_ledger.proofs.FindReply.Laws as R′
+use Rattle.ledger.specs.declared.FindReply.{FindReply}
+use Rattle.ledger.specs.Replies.{findReply}
+use Rattle.ledger.proofs.FindReply as R
+use Rattle.ledger.proofs.FindReply.Laws as R′
 use Rattle.lent_ledger.proofs.find_in.Symbol as find-in-def
 use Rattle.lent_ledger.proofs.find_in.Symbol.{name as #find-in}
 use Rattle.lent_ledger.proofs.find_in.Met as find-in-thm

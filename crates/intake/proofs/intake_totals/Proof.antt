@@ -49,10 +49,10 @@ use Rattle.runs.proofs.Laws.{read-cap, read-below, has-room}
 use Rattle.runs.proofs.Local.{big-lit, local-typed, local-lent, local-lends, local-back}
 use Rattle.runs.proofs.Turn.{tyAt}
 use Rattle.ledger.specs.Ledger.{totalsResult}
-use Rattle.lent_ledger.specs.declared.TotalsReply.{TotalsReply}
-use Rattle.lent_ledger.specs.Replies.{totalsReply}
-use Rattle.lent_ledger.proofs.TotalsReply as R
-use Rattle.lent_ledger.proofs.TotalsReply.Laws as R′
+use Rattle.ledger.specs.declared.TotalsReply.{TotalsReply}
+use Rattle.ledger.specs.Replies.{totalsReply}
+use Rattle.ledger.proofs.TotalsReply as R
+use Rattle.ledger.proofs.TotalsReply.Laws as R′
 use Rattle.lent_ledger.proofs.totals_in.Symbol as totals-in-def
 use Rattle.lent_ledger.proofs.totals_in.Symbol.{name as #totals-in}
 use Rattle.lent_ledger.proofs.totals_in.Met as totals-in-thm

@@ -14,7 +14,7 @@ use Rattle.booking.specs.Acceptable.{billAt}
 use Rattle.booking.specs.Booking.{firstUnopposed}
 use Rattle.file_bills.specs.InsideBills.{fileIn}
 use Rattle.file_bills.proofs.Sources.{source-cancel}
-use Rattle.ledger_tests.specs.InsideTests.{cancelledBy}
+use Rattle.used_entries.specs.InsideNamed.{cancelledBy}
 use Rattle.ledger_tests.proofs.Opposed.{unopposedIn, opposed-same}
 use Rattle.ledger_tests.proofs.Resumed.{Resumed, resumed-none, resumed-here, resumed-more, resumed-end}
 use Rattle.ledger_tests.proofs.first_unopposed.Statement.{statement}

@@ -52,10 +52,10 @@ use Rattle.runs.proofs.load.Symbol as load-def
 use Rattle.runs.proofs.load.Symbol.{name as #load}
 use Rattle.runs.proofs.load.Met as load-thm
 use Rattle.ledger.specs.Ledger.{findResult}
-use Rattle.lent_ledger.specs.declared.FindReply.{FindReply}
-use Rattle.lent_ledger.specs.Replies.{findReply}
-use Rattle.lent_ledger.proofs.FindReply as R
-use Rattle.lent_ledger.proofs.FindReply.Laws as R′
+use Rattle.ledger.specs.declared.FindReply.{FindReply}
+use Rattle.ledger.specs.Replies.{findReply}
+use Rattle.ledger.proofs.FindReply as R
+use Rattle.ledger.proofs.FindReply.Laws as R′
 use Rattle.lent_ledger.proofs.find_reply.Symbol as find-reply-def
 use Rattle.lent_ledger.proofs.find_reply.Symbol.{name as #find-reply}
 use Rattle.lent_ledger.proofs.find_reply.Met as find-reply-thm

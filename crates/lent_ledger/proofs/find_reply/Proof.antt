@@ -2,7 +2,7 @@
 -- Assumes nothing.
 use mathlib.Core.Path.{ap, _∙_}
 use borrow.Author.Needs.{needs}
-use Rattle.lent_ledger.specs.Replies.{findReply}
+use Rattle.ledger.specs.Replies.{findReply}
 use Rattle.lent_ledger.proofs.find_reply.Statement.{statement}
 use Rattle.lent_ledger.proofs.find_reply.Tie as tie
 

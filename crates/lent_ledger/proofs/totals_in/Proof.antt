@@ -52,10 +52,10 @@ use Rattle.runs.proofs.load.Symbol as load-def
 use Rattle.runs.proofs.load.Symbol.{name as #load}
 use Rattle.runs.proofs.load.Met as load-thm
 use Rattle.ledger.specs.Ledger.{totalsResult}
-use Rattle.lent_ledger.specs.declared.TotalsReply.{TotalsReply}
-use Rattle.lent_ledger.specs.Replies.{totalsReply}
-use Rattle.lent_ledger.proofs.TotalsReply as R
-use Rattle.lent_ledger.proofs.TotalsReply.Laws as R′
+use Rattle.ledger.specs.declared.TotalsReply.{TotalsReply}
+use Rattle.ledger.specs.Replies.{totalsReply}
+use Rattle.ledger.proofs.TotalsReply as R
+use Rattle.ledger.proofs.TotalsReply.Laws as R′
 use Rattle.lent_ledger.proofs.totals_reply.Symbol as totals-reply-def
 use Rattle.lent_ledger.proofs.totals_reply.Symbol.{name as #totals-reply}
 use Rattle.lent_ledger.proofs.totals_reply.Met as totals-reply-thm

@@ -1,7 +1,7 @@
 -- `lists::pass_over` meets its contract. The loop's invariant: no byte passed so far is the one that is looked for.
 -- Assumes nothing.
 use Prim.Native.Nat.{_+_, _-_, _≤_}
-use mathlib.Core.Path.{_≡_, sym, _∙_, ap}
+use mathlib.Core.Path.{sym, _∙_, ap}
 use denote.Ref.{now}
 use lib.ListN.{length}
 use Rattle.lists.specs.First.{isByte}

@@ -4,7 +4,7 @@ use mathlib.Core.Bool.{true}
 use mathlib.Core.Path.{_≡_, refl, sym, _∙_, ap, subst}
 use denote.Ref.{now}
 use lib.ListN.{length, take, getD}
-use Prim.Native.Nat.{ℕ, _+_, _-_, _^_, _≤_, _<_}
+use Prim.Native.Nat.{ℕ, _-_, _^_, _≤_, _<_}
 use borrow.Author.Tests.{not-false}
 use Rattle.digits.proofs.Laws.{ten-room}
 use Rattle.digits.specs.Digits.{allDigits, followedBy, numberOf}

@@ -5,7 +5,7 @@ use denote.Ref.{now}
 use lib.ListN.{length, take, getD}
 use mathlib.Core.Bool.{true}
 use mathlib.Core.Path.{_≡_, sym, _∙_}
-use Prim.Native.Nat.{_+_, _-_, _≤_, _<_, _^_, _%_}
+use Prim.Native.Nat.{_+_, _-_, _≤_, _<_, _^_}
 use Rattle.digits.proofs.Laws.{ten-room}
 use Rattle.digits.specs.Digits.{allDigits, numberOf}
 use Rattle.readings.proofs.Runs.{run-digits, run-value, run-bound}

@@ -1,7 +1,6 @@
 -- `readings::scaled` meets its contract: where the digits are at most 15, the two products and their sum are below a power of ten, so none wraps.
 -- Assumes nothing.
 use Prim.Native.Nat.{_+_, _*_, _^_, _<_}
-use mathlib.Core.Path.{_≡_}
 use Rattle.amounts.proofs.Powers.{shift, join, whole-alone}
 use Rattle.digits.proofs.Laws.{ten-room}
 use borrow.Author.Needs.{needs}

@@ -1,7 +1,6 @@
 -- `field_at` meets its contract: the record's places are those of its fields.
 -- Assumes nothing.
 use Rattle.records.proofs.Laws.{among-is, place-among}
-use mathlib.Core.Path.{_≡_}
 use borrow.Author.Needs.{needs}
 use Rattle.records.proofs.field_at.Statement.{statement}
 use Rattle.records.proofs.field_at.Tie as tie

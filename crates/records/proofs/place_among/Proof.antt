@@ -3,7 +3,7 @@
 use Rattle.records.proofs.Laws.{number-none, number-there}
 use denote.Ref.{now}
 use mathlib.Core.Logic.{inl, inr}
-use mathlib.Core.Path.{_≡_, sym}
+use mathlib.Core.Path.{sym}
 use borrow.Author.Needs.{needs}
 use Rattle.records.proofs.place_among.Statement.{statement}
 use Rattle.records.proofs.place_among.Tie as tie

@@ -1,7 +1,6 @@
 -- `third` meets its contract: the third place is read only where there are three fields.
 -- Assumes nothing.
 use borrow.Author.Tests.{lt-ltb, le-ltb}
-use mathlib.Core.Path.{_≡_}
 use borrow.Author.Needs.{needs}
 use native.Mathlib.Omega.{arith}
 use Rattle.records.proofs.third.Statement.{statement}

@@ -3,7 +3,7 @@
 -- Assumes nothing.
 use borrow.Author.Needs.{needs}
 use native.Mathlib.Omega.{arith}
-use mathlib.Core.Path.{_≡_, sym}
+use mathlib.Core.Path.{sym}
 use Rattle.lists.specs.InsideTabulate.{tabulate}
 use Rattle.refusals.specs.Codes.{codeIn, codeOf}
 use Rattle.refusals.proofs.RejectionCodes.{codeTable, code-above, codes-zero, codes-some}

@@ -1,6 +1,6 @@
 -- `sound_ledgers::cancelled_place` meets its contract: where it answers a place, the tests on the way are what `Cancels` says; where it doesn't, one of them says that there is none.
 -- Assumes nothing.
-use mathlib.Core.Path.{_≡_, sym, _∙_, ap, subst}
+use mathlib.Core.Path.{_≡_, sym, _∙_, ap}
 use mathlib.Core.Bool.{true≢false}
 use denote.Ref.{now}
 use borrow.Author.Tests.{not-true, not-false}

@@ -1,7 +1,7 @@
 -- `sound_ledgers::is_sound_in` meets its contract: what the passes show makes the ledger sound, and where one of them fails it is not.
 -- Assumes nothing.
-use mathlib.Core.Path.{_≡_, sym, _∙_, subst}
-use Prim.Native.Nat.{ℕ, _≤_, _<_}
+use mathlib.Core.Path.{_≡_, sym, _∙_}
+use Prim.Native.Nat.{ℕ}
 use denote.Ref.{now}
 use borrow.Author.Tests.{not-true, not-false}
 use Rattle.buckets.proofs.Repeats.{all-different}

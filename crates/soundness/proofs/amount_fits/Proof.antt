@@ -2,7 +2,6 @@
 -- Assumes nothing.
 use mir.Syntax.{w64}
 use mir.Facts.{toZ-ofZ}
-use mathlib.Core.Path.{_≡_}
 use borrow.Author.Needs.{needs}
 use Rattle.soundness.proofs.amount_fits.Statement.{statement}
 use Rattle.soundness.proofs.amount_fits.Tie as tie

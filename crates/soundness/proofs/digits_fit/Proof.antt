@@ -5,7 +5,6 @@ use mir.Val.{toZ, ofZ}
 use mir.Syntax.{w64}
 use Rattle.soundness.specs.Sound.{digitsFit}
 use borrow.Author.Needs.{needs}
-use native.Mathlib.Omega.{arith}
 use Rattle.soundness.proofs.digits_fit.Statement.{statement}
 use Rattle.soundness.proofs.digits_fit.Tie as tie
 

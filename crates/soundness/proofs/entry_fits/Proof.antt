@@ -2,7 +2,6 @@
 -- Assumes nothing.
 use Rattle.soundness.specs.Sound.{daysFit, entryFits}
 use borrow.Author.Needs.{needs}
-use native.Mathlib.Omega.{arith}
 use Rattle.soundness.proofs.entry_fits.Statement.{statement}
 use Rattle.soundness.proofs.entry_fits.Tie as tie
 

@@ -4,7 +4,6 @@ use mathlib.Core.Path.{_≡_}
 use mir.Val.{toZ, ofZ}
 use mir.Syntax.{w64}
 use borrow.Author.Needs.{needs}
-use native.Mathlib.Omega.{arith}
 use Rattle.soundness.proofs.period_lacks_fit.Statement.{statement}
 use Rattle.soundness.proofs.period_lacks_fit.Tie as tie
 

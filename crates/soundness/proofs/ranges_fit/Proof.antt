@@ -2,7 +2,6 @@
 -- Assumes nothing.
 use Rattle.soundness.specs.Sound.{rangesFit}
 use borrow.Author.Needs.{needs}
-use native.Mathlib.Omega.{arith}
 use Rattle.soundness.proofs.ranges_fit.Statement.{statement}
 use Rattle.soundness.proofs.ranges_fit.Tie as tie
 

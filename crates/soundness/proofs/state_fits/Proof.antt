@@ -1,8 +1,6 @@
 -- `soundness::state_fits` meets its contract: the kind decides which test of the state is the answer.
 -- Assumes nothing.
 use borrow.Author.Tests.{eq-eqb, ne-eqb}
-use borrow.Author.Needs.{needs}
-use native.Mathlib.Omega.{arith}
 use Rattle.soundness.proofs.state_fits.Statement.{statement}
 use Rattle.soundness.proofs.state_fits.Tie as tie
 

@@ -1,7 +1,6 @@
 -- `tables::chosen` meets its contract: each answer goes by the tests that led to it.
 -- Assumes nothing.
 use mathlib.Core.Bool.{and-false}
-use mathlib.Core.Path.{_≡_}
 use borrow.Author.Tests.{le-leb, lt-leb}
 use Rattle.tables.proofs.chosen.Statement.{statement}
 use Rattle.tables.proofs.chosen.Tie as tie

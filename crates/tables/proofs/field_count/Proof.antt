@@ -2,7 +2,7 @@
 -- Assumes nothing.
 use Rattle.tables.specs.Tables.{fieldCount, fieldCounts}
 use lib.ListN.{List·getD-eq-default}
-use mathlib.Core.Path.{_≡_, sym}
+use mathlib.Core.Path.{sym}
 use Rattle.lists.proofs.Numbers.{past-those}
 use Rattle.tables.proofs.field_count.Statement.{statement}
 use Rattle.tables.proofs.field_count.Tie as tie

@@ -3,7 +3,6 @@
 use Rattle.tables.specs.Types.{mayFollow}
 use mathlib.Core.Bool.{and-false}
 use borrow.Author.Tests.{lt-ltb, le-ltb}
-use mathlib.Core.Path.{_≡_}
 use borrow.Author.Needs.{needs}
 use Rattle.tables.proofs.may_follow.Statement.{statement}
 use Rattle.tables.proofs.may_follow.Tie as tie

@@ -3,7 +3,6 @@
 use Rattle.tables.specs.Types.{parentType}
 use Rattle.lists.proofs.Numbers.{past-those}
 use borrow.Author.Tests.{le-ltb}
-use mathlib.Core.Path.{_≡_}
 use Rattle.tables.proofs.parent_type.Statement.{statement}
 use Rattle.tables.proofs.parent_type.Tie as tie
 

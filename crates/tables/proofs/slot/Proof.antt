@@ -1,6 +1,5 @@
 -- `tables::slot` meets its contract: each answer goes by its test.
 -- Assumes nothing.
-use mathlib.Core.Path.{_≡_}
 use borrow.Author.Tests.{lt-ltb, le-ltb}
 use Rattle.tables.proofs.slot.Statement.{statement}
 use Rattle.tables.proofs.slot.Tie as tie

@@ -1,6 +1,6 @@
 -- `used_entries::first_named` meets its contract: without a Reference ID nothing is named, and with one the walk decides.
 -- Assumes nothing.
-use mathlib.Core.Path.{_≡_, sym, ap, _∙_}
+use mathlib.Core.Path.{sym, ap, _∙_}
 use Prim.Native.Nat.{ℕ}
 use denote.Ref.{now}
 use borrow.Author.Needs.{needs}

@@ -1,6 +1,6 @@
 -- `used_entries::has_wanted` meets its contract: there is such an entry exactly where the first place of one is below the used count. No marks are given, so no place is marked.
 -- Assumes nothing.
-use mathlib.Core.Path.{_≡_, ap, _∙_}
+use mathlib.Core.Path.{ap, _∙_}
 use Prim.Native.Nat.{ℕ}
 use denote.Ref.{now}
 use borrow.Author.Needs.{needs}

@@ -1,6 +1,6 @@
 -- `used_entries::is_unmarked` meets its contract: what is read past the marks is 0.
 -- Assumes nothing.
-use mathlib.Core.Path.{_≡_, sym, ap}
+use mathlib.Core.Path.{sym, ap}
 use Prim.Native.Nat.{ℕ}
 use denote.Ref.{now}
 use borrow.Author.Needs.{needs}

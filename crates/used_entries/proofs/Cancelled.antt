@@ -21,7 +21,7 @@ use Rattle.soundness.specs.Sound.{opposite}
 use Rattle.booking.specs.Booking.{namesEntry, namedEntry, cancelNamed}
 use Rattle.booking.specs.Acceptable.{noBill, billAt}
 use Rattle.booking.proofs.Added.{length-cancelled}
-use Rattle.ledger_tests.specs.InsideTests.{cancelledBy}
+use Rattle.used_entries.specs.InsideNamed.{cancelledBy}
 
 -- ---- the named entry, by its place
 pub named-some : (c : Bill) (l : List Entry) → firstWhere (namesEntry c) l < length l → namedEntry c l ≡ some (entryOf l (firstWhere (namesEntry c) l))
