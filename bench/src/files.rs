@@ -26,7 +26,7 @@ pub enum Ids {
     OneBucket,
 }
 
-/// How many buckets the proved code's hash tables have for a file of more than 512 lines.
+/// How many buckets the proved code's hash tables have for a file of more than 1,024 lines.
 const BUCKETS: u64 = 8_192;
 
 /// The bucket of an ID in the proved code's hash tables.

@@ -183,8 +183,8 @@ fn book_in_room(
     )
 }
 
-// Room for 512 lines: setting the columns of 4,096 lines to 0 takes as long as reading some hundred.
-fn book_512_lines(
+// Room for 256 lines: setting the columns of 4,096 lines to 0 takes as long as reading some hundred.
+fn book_256_lines(
     retailer: u64,
     distributors: &[u8],
     file: &[u8],
@@ -198,16 +198,62 @@ fn book_512_lines(
 ) -> Answer
     requires { ⌜ RoomFor places (now words) (now amounts) ⌝ }
     requires { ⌜ Opened (inputOf retailer (now distributors) (now file) (entriesOf (now words) (now amounts) places) used) ⌝ }
-    requires { ⌜ Placed (now file) n (now starts) (now ends) (linesOf (now file)) × (n ≤ 512) ⌝ }
+    requires { ⌜ Placed (now file) n (now starts) (now ends) (linesOf (now file)) × (n ≤ 256) ⌝ }
     ensures { λ r. ⌜ Meets (inputOf retailer (now (distributors .entry)) (now (file .entry)) (entriesOf (now (words .entry)) (now (amounts .entry)) places) used) r (entriesOf (now (words .exit)) (now (amounts .exit)) places) ⌝ }
 {
-    let mut columns = [0u64; 4096];
-    let mut charges = [0i64; 512];
-    let mut usages = [0i64; 512];
-    let mut bill_words = [0u64; 4608];
-    let mut bill_amounts = [0i64; 1024];
-    let mut references = [0u64; 512];
-    let mut at = [0usize; 512];
+    let mut columns = [0u64; 2048];
+    let mut charges = [0i64; 256];
+    let mut usages = [0i64; 256];
+    let mut bill_words = [0u64; 2304];
+    let mut bill_amounts = [0i64; 512];
+    let mut references = [0u64; 256];
+    let mut at = [0usize; 256];
+    book_in_room(
+        retailer,
+        distributors,
+        file,
+        words,
+        amounts,
+        places,
+        used,
+        starts,
+        ends,
+        n,
+        &mut columns,
+        &mut charges,
+        &mut usages,
+        &mut bill_words,
+        &mut bill_amounts,
+        &mut references,
+        &mut at,
+    )
+}
+
+// Room for 1,024 lines.
+fn book_1024_lines(
+    retailer: u64,
+    distributors: &[u8],
+    file: &[u8],
+    words: &mut [u64],
+    amounts: &mut [i64],
+    places: usize,
+    used: usize,
+    starts: &[usize],
+    ends: &[usize],
+    n: usize,
+) -> Answer
+    requires { ⌜ RoomFor places (now words) (now amounts) ⌝ }
+    requires { ⌜ Opened (inputOf retailer (now distributors) (now file) (entriesOf (now words) (now amounts) places) used) ⌝ }
+    requires { ⌜ Placed (now file) n (now starts) (now ends) (linesOf (now file)) × (n ≤ 1024) ⌝ }
+    ensures { λ r. ⌜ Meets (inputOf retailer (now (distributors .entry)) (now (file .entry)) (entriesOf (now (words .entry)) (now (amounts .entry)) places) used) r (entriesOf (now (words .exit)) (now (amounts .exit)) places) ⌝ }
+{
+    let mut columns = [0u64; 8192];
+    let mut charges = [0i64; 1024];
+    let mut usages = [0i64; 1024];
+    let mut bill_words = [0u64; 9216];
+    let mut bill_amounts = [0i64; 2048];
+    let mut references = [0u64; 1024];
+    let mut at = [0usize; 1024];
     book_in_room(
         retailer,
         distributors,
@@ -293,8 +339,22 @@ fn book_lines(
     requires { ⌜ Placed (now file) n (now starts) (now ends) (linesOf (now file)) × (n ≤ 4096) ⌝ }
     ensures { λ r. ⌜ Meets (inputOf retailer (now (distributors .entry)) (now (file .entry)) (entriesOf (now (words .entry)) (now (amounts .entry)) places) used) r (entriesOf (now (words .exit)) (now (amounts .exit)) places) ⌝ }
 {
-    if n <= 512 {
-        return book_512_lines(
+    if n <= 256 {
+        return book_256_lines(
+            retailer,
+            distributors,
+            file,
+            words,
+            amounts,
+            places,
+            used,
+            starts,
+            ends,
+            n,
+        );
+    }
+    if n <= 1024 {
+        return book_1024_lines(
             retailer,
             distributors,
             file,

@@ -18,12 +18,12 @@ pub fn is_unlike(place: u64, own: u64, theirs: &[u64]) -> bool
     own != theirs[place as usize - 1]
 }
 
-// Test 9 of a file of at most 512 records: a small tree is soon set to 0.
+// Test 9 of a file of at most 1,024 records: a small tree is soon set to 0.
 fn first_of_few(ids: &[u64]) -> usize
-    requires { ⌜ length (now ids) ≤ 512 ⌝ }
+    requires { ⌜ length (now ids) ≤ 1024 ⌝ }
     ensures { λ r. ⌜ r ≡ firstRepeated (now (ids .entry)) ⌝ }
 {
-    let mut tree = [0u16; 2048];
+    let mut tree = [0u16; 3072];
     buckets::first_repeated(ids, ids.len(), 1024, &mut tree)
 }
 
@@ -41,7 +41,7 @@ pub fn first_repeated(ids: &[u64]) -> usize
     requires { ⌜ length (now ids) ≤ 4096 ⌝ }
     ensures { λ r. ⌜ r ≡ firstRepeated (now (ids .entry)) ⌝ }
 {
-    if ids.len() <= 512 {
+    if ids.len() <= 1024 {
         return first_of_few(ids);
     }
     first_of_many(ids)

@@ -13,7 +13,7 @@ slice-aggregate-first-repeated : tie.Need-slice-aggregate-first-repeated
 slice-aggregate-first-repeated c = search needs
 
 first-repeated-requires : tie.Need-first-repeated-requires
-first-repeated-requires c κs = tree-asks (now (c .before .before .args .ids)) 1024 2048 (lit< tt) (lit≤ tt) (omega arith) (omega arith)
+first-repeated-requires c κs = tree-asks (now (c .before .before .args .ids)) 1024 3072 (lit< tt) (lit≤ tt) (omega arith) (omega arith)
 
 returns : tie.Need-returns
 returns c = c .before .first-repeated .ensures .0 ∙ tree-first (now (c .before .before .before .before .args .ids))

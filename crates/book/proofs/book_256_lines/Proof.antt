@@ -1,10 +1,10 @@
--- `book::book_512_lines` meets its contract.
+-- `book::book_256_lines` meets its contract.
 -- Assumes nothing.
 use Rattle.book.proofs.Rooms.{file-room}
 use borrow.Author.Needs.{needs}
 use native.Mathlib.Omega.{arith}
-use Rattle.book.proofs.book_512_lines.Statement.{statement}
-use Rattle.book.proofs.book_512_lines.Tie as tie
+use Rattle.book.proofs.book_256_lines.Statement.{statement}
+use Rattle.book.proofs.book_256_lines.Tie as tie
 
 slice-aggregate-book-in-room : tie.Need-slice-aggregate-book-in-room
 slice-aggregate-book-in-room c = search needs
@@ -28,7 +28,7 @@ slice-aggregate-book-in-room-7 : tie.Need-slice-aggregate-book-in-room-7
 slice-aggregate-book-in-room-7 c = search needs
 
 book-in-room-requires : tie.Need-book-in-room-requires
-book-in-room-requires c κs = let s = c .before .before .before .before .before .before .before .before .before .before .before .before .before .before in (s .pre .0, (s .pre .1 .0, (s .pre .1 .1 .0, file-room 512 (s .args .n) (s .pre .1 .1 .1) (omega arith))))
+book-in-room-requires c κs = let s = c .before .before .before .before .before .before .before .before .before .before .before .before .before .before in (s .pre .0, (s .pre .1 .0, (s .pre .1 .1 .0, file-room 256 (s .args .n) (s .pre .1 .1 .1) (omega arith))))
 
 same-length : tie.Need-same-length
 same-length c = search needs
@@ -39,8 +39,8 @@ same-length-2 c = search needs
 returns : tie.Need-returns
 returns c = search needs
 
-pub book-512-lines-spec : {M : Type 1} → statement M
-book-512-lines-spec =
+pub book-256-lines-spec : {M : Type 1} → statement M
+book-256-lines-spec =
     tie.close
     (tie.spec
     slice-aggregate-book-in-room
