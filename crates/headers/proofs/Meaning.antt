@@ -25,18 +25,18 @@ use Rattle.headers.specs.Meaning.{Listed}
 use Rattle.headers.specs.InsideSteps.{isGroup}
 
 -- ---- test 11
-pub number-is : (n : ℕ) (read : Number) → isValue n read ≡ true → read ≡ Value n
-number-is n (Value m) e = ap Value (eqb-true m n e)
-number-is n Other e = let z : _≡_ {A = ℕ} 0 1 = cc in absurd (omega arith)
+pub is-value : (n : ℕ) (read : Number) → isValue n read ≡ true → read ≡ Value n
+is-value n (Value m) e = ap Value (eqb-true m n e)
+is-value n Other e = let z : _≡_ {A = ℕ} 0 1 = cc in absurd (omega arith)
 
-pub is-number : (n : ℕ) (read : Number) → read ≡ Value n → isValue n read ≡ true
-is-number n read e = ap (isValue n) e ∙ eq-eqb n n refl
+pub value-is : (n : ℕ) (read : Number) → read ≡ Value n → isValue n read ≡ true
+value-is n read e = ap (isValue n) e ∙ eq-eqb n n refl
 
 module _ (retailer : ℕ) (header : List ℕ) where
   pub ours-is : (isOurs retailer header ≡ true → fixedDigitsOf 9 (field 4 header) ≡ Value retailer)
       × (fixedDigitsOf 9 (field 4 header) ≡ Value retailer → isOurs retailer header ≡ true)
   unfolding isOurs
-  ours-is = let read = fixedDigitsOf 9 (field 4 header) in (number-is retailer read, is-number retailer read)
+  ours-is = let read = fixedDigitsOf 9 (field 4 header) in (is-value retailer read, value-is retailer read)
 
 -- ---- test 12
 module _ (distributors header : List ℕ) where

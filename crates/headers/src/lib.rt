@@ -23,7 +23,7 @@ pub fn is_ours(said: u64, retailer: u64) -> bool
 }
 
 // Whether what was read is the number n.
-fn is_number(read: Number, n: u64) -> bool
+fn is_value(read: Number, n: u64) -> bool
     ensures { λ r. ⌜ r ≡ isValue n read ⌝ }
 {
     match read {
@@ -40,7 +40,7 @@ fn is_among(distributors: &[u8], sender: u64) -> bool
     while g < distributors.len() / 4 {
         let start = 4 * g;
         let end = start + 4;
-        if is_number(digits::fixed_digits(&distributors[start..end], 4), sender) {
+        if is_value(digits::fixed_digits(&distributors[start..end], 4), sender) {
             return true;
         }
         g += 1;

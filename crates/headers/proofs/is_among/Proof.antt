@@ -42,8 +42,8 @@ part-fixed-digits-end c = search needs
 fixed-digits-requires : tie.Need-fixed-digits-requires Inv-loop μ-loop
 fixed-digits-requires c κs = search needs
 
-is-number-requires : tie.Need-is-number-requires Inv-loop μ-loop
-is-number-requires c κs = search needs
+is-value-requires : tie.Need-is-value-requires Inv-loop μ-loop
+is-value-requires c κs = search needs
 
 returns : tie.Need-returns Inv-loop μ-loop
 returns c =
@@ -51,7 +51,7 @@ returns c =
     let all = now (p .before .before .args .distributors) in
     let sender = p .before .before .args .sender in
     let g = p .loop .g in
-    let here = group-told all sender g (c .before .before .fixed-digits .ensures) (c .before .is-number .ensures) ∙ c .if1 .taken in
+    let here = group-told all sender g (c .before .before .fixed-digits .ensures) (c .before .is-value .ensures) ∙ c .if1 .taken in
     let first = searched-here (isSender all sender) (length all / 4) g (omega arith) (p .loop .inv .1) here in
     sym (found-some (isSender all sender) (length all / 4) g (omega arith) first)
 
@@ -67,7 +67,7 @@ loop-again c =
     let all = now (p .before .before .args .distributors) in
     let sender = p .before .before .args .sender in
     let g = p .loop .g in
-    let other = group-told all sender g (c .before .before .fixed-digits .ensures) (c .before .is-number .ensures) ∙ c .if1 .left in
+    let other = group-told all sender g (c .before .before .fixed-digits .ensures) (c .before .is-value .ensures) ∙ c .if1 .left in
     (omega arith, searched-more (isSender all sender) (length all / 4) g (omega arith) (p .loop .inv .1) other)
 
 returns-2 : tie.Need-returns-2 Inv-loop μ-loop
@@ -92,7 +92,7 @@ is-among-spec =
     part-fixed-digits-start
     part-fixed-digits-end
     fixed-digits-requires
-    is-number-requires
+    is-value-requires
     returns
     add-g
     loop-less
