@@ -411,7 +411,6 @@ module _ {GIVEN} (W : Given 𝓤 H A) {RUNNING} (C : Calls 𝓤 H) (fm : FmC �
 WALK_BOOK = (
     WALK.replace("use denote.Builtin.{u64, i64, usize}", "use denote.Builtin.{u8, u64, i64, usize}")
     .replace("use types.Tokens.{lft-new}", "use types.Tokens.{lft-new, lft-end}")
-    .replace("{look, init, forget,", "{look, store as stores, init, forget,")
     .replace("drop as loses, use1, use2, use3,", "drop as loses, use0, use1, use2, use3,")
     .replace("pick, learn, fsplit,", "pick, learn, rewrite, fsplit,")
     .replace("froom}", "froom, fat}")

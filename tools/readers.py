@@ -347,12 +347,16 @@ module _ {GIVEN} (W : Given 𝓤 H A) {RUNNING}
 
 
 def host_walk(o):
-    """A branch by how many entries are in use; in each arm two local arrays, which are lent for a lifetime made for each, one call, and the arrays are room again."""
+    """Branches by how many entries are in use; in each arm two local arrays, which are lent for a lifetime made for each, one call, and the arrays are room again."""
     f, d, con = o.host, o.inner.replace("_", "-"), camel(o.inner) + "Contract"
     ps = o.numbers
     e = len(ps)
-    first_array, test = 2 + e, 6 + e
-    n = 15 + e
+    first_array = 2 + e
+    test = first_array + 2 * len(SIZES)
+    n = test + 1 + 4 * len(SIZES)
+    # what runs after each branch
+    rests = ("parts.t-3", "parts.t-5")
+    env = " ∷ ".join(f"(τ {j}, {local(j)})" for j in range(n))
     gs = " ".join("g" + x for x in ps)
     arrows = "".join(f"{x} < 2 ^ 64 → " for x in ps)
 
@@ -367,13 +371,15 @@ def host_walk(o):
         lends = f"(α₁ ∷ []) (α₂ ∷ []) fullShare fullShare {l1} 0 {l2} 0 (g₁ .0) (g₂ .0) {w} {z}"
 
         got = f"{d}-got 𝓤 H A W mem run C fm {lends} (g₁ .1) (g₂ .1) e₁ e₂ {r1} {r2} known κ₀ q₀ r {' '.join(ps)}"
-        back = "returns-within ! Post refl" if k == 0 else "returns !"
+        last = k == len(SIZES) - 1
+        back = "returns !" if last else "returns-within ! Post refl"
+        room = "(read-cap n used)" if last else f"(read-below n used {size} (leb→le used {size} fits{k}))"
         held = [0, 1] + [2 + i for i in range(e)] + [test, ptr1, sl1, ptr2, sl2]
         return f"""{arrays(n, size, a1, a2)}-- [the amounts; their lender's part; α₂'s token; the words; their lender's part; α₁'s token; the locals; the run]
         move ! (3 ∷ 0 ∷ 5 ∷ 2 ∷ {6 + 2 * n - 2} ∷ 4 ∷ 1 ∷ []) $ group ! 4 $
         -- [the words and the amounts; the run; the lender's parts; the locals]: `{o.inner}` is called
         {array(lambda j: p(j, 4), ptr1, sl1, r1)}{array(lambda j: p(j, 4), ptr2, sl2, r2)}use2 W (later (raw (C #{d} (s₀ ∷ {' ∷ '.join('vint w64 ' + x for x in ps)} ∷ sliceVal ({l1}, 0) {w} ∷ sliceVal ({l2}, 0) {z} ∷ []) (λ u. ⋆ 𝓤 H A ({got} u ∷ [])))))
-        ({d}-called 𝓤 H A W mem run C fm {lends} (g₁ .1) (g₂ .1) e₁ e₂ {r1} {r2} known κ₀ q₀ r {' '.join(ps)} {gs} (has-room {size} (g₁ .1) (g₂ .1) (readCount n used) e₁ e₂ {'(read-below n used ' + str(size) + ' (leb→le used ' + str(size) + ' few))' if k == 0 else '(read-cap n used)'})) $ await ! tt $
+        ({d}-called 𝓤 H A W mem run C fm {lends} (g₁ .1) (g₂ .1) e₁ e₂ {r1} {r2} known κ₀ q₀ r {' '.join(ps)} {gs} (has-room {size} (g₁ .1) (g₂ .1) (readCount n used) e₁ e₂ {room})) $ await ! tt $
         calls ! fm ({got}) {operands([1] + [2 + i for i in range(e)] + [sl1, sl2], lambda j: p(j, 3))} (λ u. await ! tt $ pick ! (λ ls. learn ! (λ ms.
         land ! (from ! (stop !)) (init ! {p(0, 3)} refl (LL.lawful R.the-type R′.the-laws 𝓤 H A W .typed answer _ (ms .0) .0)) $ split ! $
         -- the arrays are room again
@@ -382,8 +388,18 @@ def host_walk(o):
         {frees(n, [('cell', a2), ('cell', a1), 'run'], (a1, a2))} $
         by ! (exits u {gs} (ms .0)){')' * 9}"""
 
-    env = " ∷ ".join(f"(τ {j}, {local(j)})" for j in range(n))
-    text = f"""-- `{HOST}::{f}` meets its contract: a walk of its MIR, by hand, with a branch by how many entries are in use. Each arm has two local arrays, which are lent at its beginning, each for a lifetime that is made for it, and are room again at its end (`runs`'s `Local.antt`).
+    def branches(k):
+        if k == len(SIZES) - 1:
+            return arm(k)
+        at = 2 * (n - 1 - test)
+        return f"""assigns ! (bin ! (loads ! (from ! (stop !)) (look ! {2 * (n - 3)} refl)) (big-lit ! (record {{ fits = lit< tt }})) tt) (from ! (stop !)) ({'init' if k == 0 else 'stores'} ! {at} refl (tt, tt)) $
+        first ! $ branches ! (loads ! (from ! (stop !)) (look ! {at} refl))
+        -- words for {SIZES[k]:,} entries
+        (λ fits{k}. {arm(k)})
+        -- words for more
+        (λ more{k}. skips ! $ exec ! C Λ ({env} ∷ []) {rests[k]} (atRet ({env} ∷ []) Post) $ {branches(k + 1)})"""
+
+    text = f"""-- `{HOST}::{f}` meets its contract: a walk of its MIR, by hand, with branches by how many entries are in use. Each arm has two local arrays, which are lent at its beginning, each for a lifetime that is made for it, and are room again at its end (`runs`'s `Local.antt`).
 -- Of `{o.inner}` the proof knows only that it meets its contract (`{CRATE}`'s `{camel(o.inner)}Called.antt`).
 -- Assumes nothing.
 {WALK}use Rattle.runs.proofs.Laws.{{read-cap, read-below, has-room}}
@@ -450,12 +466,7 @@ module _ {GIVEN} (W : Given 𝓤 H A) {RUNNING}
         keep ! ({1 + e} ∷ {2 + e} ∷ []) $ join ! $ enter ! C Λ code.function vs _ $
         {''.join(f'alloc1 ! (λ {local(j)}. ' for j in range(n))}alloc0 ! $ params1 ! $
         pass1 ! (init ! {2 * (n - 2)} refl (tt, (tt, (record {{ fits = room₀ .0 }}, tt)))) $ {''.join(f'pass1 ! (init ! {2 * (n - 3 - k)} refl (tt, record {{ fits = g{x} }})) $ ' for k, x in enumerate(ps))}pass0 ! $
-        assigns ! (bin ! (loads ! (from ! (stop !)) (look ! {2 * (n - 3)} refl)) (big-lit ! (record {{ fits = lit< tt }})) tt) (from ! (stop !)) (init ! {2 * (n - 1 - test)} refl (tt, tt)) $
-        first ! $ branches ! (loads ! (from ! (stop !)) (look ! {2 * (n - 1 - test)} refl))
-        -- a small ledger
-        (λ few. {arm(0)})
-        -- a large one
-        (λ many. skips ! $ exec ! C Λ ({env} ∷ []) parts.t-3 (atRet ({env} ∷ []) Post) $ {arm(1)}){')' * n}
+        {branches(0)}{')' * n}
 """
     return text + closing(
         f, ["slice-vals"] + ["uint-vals w64"] * e,

@@ -2,7 +2,7 @@
 context. readers.py and booking.py make the proofs of crates lent_ledger and intake with it, and walks.py writes them."""
 
 # how many entries the words have room for: of Totals and Find, and of Book
-SIZES = (1024, 8192)
+SIZES = (1024, 4096, 8192)
 BOOK_SIZES = (2048, 5120, 8192)
 ROOM = {n: (9 * n, 2 * n) for n in SIZES + BOOK_SIZES}
 
@@ -76,7 +76,7 @@ use ghost.Atoms.{Atoms}
 use contract.Monad.{Fun}
 use contract.Running.{givenOf, tables, tablesOf}
 use types.Kit.{Given, Item, ‵, raw, _⊛_, some, later, ⋆, atRet, _$_, _∵_, !, qed, by, move, keep, drop as loses, use1, use2, use3, split, join, group, pick, learn, fsplit, fjoin, suffices, frame, await, done}
-use types.Run.{look, init, forget, stop, hop, fld, from, load as loads, lit, addr, of-opd, bin, and-then, no-more, assigns, first, branches, skips, exec, calls, land, returns, returns-within, enter, alloc1, alloc0, params1, pass1, pass0, free1, free0}
+use types.Run.{look, store as stores, init, forget, stop, hop, fld, from, load as loads, lit, addr, of-opd, bin, and-then, no-more, assigns, first, branches, skips, exec, calls, land, returns, returns-within, enter, alloc1, alloc0, params1, pass1, pass0, free1, free0}
 use types.Part.{agg, rep, whole, sub, look-in}
 use types.Tokens.{lft-new}
 use sound.WpLaws.{FmC, fmOf, WpFn-mono}

@@ -104,6 +104,11 @@ pub extern "C" fn intake_totals(run: &[Entry], used: usize) -> TotalsReply
         let mut few_amounts = [0i64; 2048];
         return lent_ledger::totals_in(run, used, &mut few_words, &mut few_amounts);
     }
+    if used <= 4096 {
+        let mut some_words = [0u64; 36864];
+        let mut some_amounts = [0i64; 8192];
+        return lent_ledger::totals_in(run, used, &mut some_words, &mut some_amounts);
+    }
     let mut words = [0u64; 73728];
     let mut amounts = [0i64; 16384];
     lent_ledger::totals_in(run, used, &mut words, &mut amounts)
@@ -118,6 +123,11 @@ pub extern "C" fn intake_find(run: &[Entry], used: usize, site: u64, day: u64) -
         let mut few_words = [0u64; 9216];
         let mut few_amounts = [0i64; 2048];
         return lent_ledger::find_in(run, used, site, day, &mut few_words, &mut few_amounts);
+    }
+    if used <= 4096 {
+        let mut some_words = [0u64; 36864];
+        let mut some_amounts = [0i64; 8192];
+        return lent_ledger::find_in(run, used, site, day, &mut some_words, &mut some_amounts);
     }
     let mut words = [0u64; 73728];
     let mut amounts = [0i64; 16384];

@@ -248,6 +248,34 @@ fn is_sound_of_few(words: &[u64], amounts: &[i64], used: usize) -> bool
     )
 }
 
+// For up to 4,096 entries.
+fn is_sound_of_some(words: &[u64], amounts: &[i64], used: usize) -> bool
+    requires { ⌜ RoomFor used (now words) (now amounts) × (used ≤ 4096) ⌝ }
+    ensures { λ r. ⌜ (r ≡ true → Sound (entriesOf (now (words .entry)) (now (amounts .entry)) used) used) ⌝ }
+    ensures { λ r. ⌜ (r ≡ false → Sound (entriesOf (now (words .entry)) (now (amounts .entry)) used) used → ⊥) ⌝ }
+{
+    let mut keys = [0u64; 4096];
+    let mut states = [0u8; 4096];
+    let mut firsts = [0u64; 4096];
+    let mut lasts = [0u64; 4096];
+    let mut tree = [0u16; 16384];
+    let mut marks = [0u16; 4096];
+    let mut order = [0u16; 4096];
+    is_sound_in(
+        words,
+        amounts,
+        used,
+        &mut keys,
+        &mut states,
+        &mut firsts,
+        &mut lasts,
+        8192,
+        &mut tree,
+        &mut marks,
+        &mut order,
+    )
+}
+
 // For up to 8,192 entries, and twice as many buckets, so that few of them hold two entries.
 fn is_sound_of_many(words: &[u64], amounts: &[i64], used: usize) -> bool
     requires { ⌜ RoomFor used (now words) (now amounts) × (used ≤ 8192) ⌝ }
@@ -286,6 +314,9 @@ pub fn is_sound(words: &[u64], amounts: &[i64], places: usize, used: usize) -> b
     }
     if used <= 1024 {
         return is_sound_of_few(words, amounts, used);
+    }
+    if used <= 4096 {
+        return is_sound_of_some(words, amounts, used);
     }
     is_sound_of_many(words, amounts, used)
 }

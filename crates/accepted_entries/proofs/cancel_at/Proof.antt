@@ -11,21 +11,6 @@ use Rattle.entries.proofs.Words.{entry-of}
 use Rattle.accepted_entries.proofs.cancel_at.Statement.{statement}
 use Rattle.accepted_entries.proofs.cancel_at.Tie as tie
 
-entry-at-requires : tie.Need-entry-at-requires
-entry-at-requires c κs = search needs
-
-cancelled-requires : tie.Need-cancelled-requires
-cancelled-requires c κs = search needs
-
-put-requires : tie.Need-put-requires
-put-requires c κs = search needs
-
-same-length : tie.Need-same-length
-same-length c = search needs
-
-same-length-2 : tie.Need-same-length-2
-same-length-2 c = search needs
-
 returns : tie.Need-returns
 returns c =
     let s = c .before .before .before .before .before .before .before .before .before .before .before in
@@ -39,4 +24,4 @@ returns c =
 pub cancel-at-spec : {M : Type 1} → statement M
 cancel-at-spec =
     tie.close
-    (tie.spec entry-at-requires cancelled-requires put-requires same-length same-length-2 returns)
+    (tie.spec (λ c κs. search needs) (λ c κs. search needs) (λ c κs. search needs) (λ c. search needs) (λ c. search needs) returns)

@@ -8,15 +8,6 @@ use Rattle.entries.proofs.Words.{set-entries}
 use Rattle.accepted_entries.proofs.put.Statement.{statement}
 use Rattle.accepted_entries.proofs.put.Tie as tie
 
-set-entry-requires : tie.Need-set-entry-requires
-set-entry-requires c κs = search needs
-
-same-length : tie.Need-same-length
-same-length c = search needs
-
-same-length-2 : tie.Need-same-length-2
-same-length-2 c = search needs
-
 returns : tie.Need-returns
 returns c =
     let s = c .before .before .before .before .before .before .before in
@@ -25,4 +16,4 @@ returns c =
     ∙ set-entries (now (s .args .words)) (now (s .args .amounts)) (s .args .places) (s .args .at) (s .args .e) (s .pre .0) (s .pre .1)
 
 pub put-spec : {M : Type 1} → statement M
-put-spec = tie.close (tie.spec set-entry-requires same-length same-length-2 returns)
+put-spec = tie.close (tie.spec (λ c κs. search needs) (λ c. search needs) (λ c. search needs) returns)

@@ -12,9 +12,6 @@ returns : tie.Need-returns
 unfolding stateAfter
 returns c = simp (ne-eqb _ _ (c .if1 .taken))
 
-first-overlap-requires : tie.Need-first-overlap-requires
-first-overlap-requires c κs = search needs
-
 returns-2 : tie.Need-returns-2
 unfolding stateAfter
 returns-2 c =
@@ -28,4 +25,4 @@ returns-3 c =
     simp (eq-eqb _ _ (c .before .before .if1 .left), length-entries (now (a .words)) (now (a .amounts)) (a .used), ← c .before .first-overlap .ensures, le-ltb _ _ (c .if2 .left))
 
 pub state-of-spec : {M : Type 1} → statement M
-state-of-spec = tie.close (tie.spec returns first-overlap-requires returns-2 returns-3)
+state-of-spec = tie.close (tie.spec returns (λ c κs. search needs) returns-2 returns-3)

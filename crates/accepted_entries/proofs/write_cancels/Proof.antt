@@ -25,9 +25,6 @@ Inv-loop words₀ amounts₀ places used file bill-words bill-amounts n named at
 abbrev μ-loop : tie.MeasureT-loop
 μ-loop words₀ amounts₀ places used file bill-words bill-amounts n named at₀ k₀ words amounts at k = n - k
 
-add-at : tie.Need-add-at Inv-loop μ-loop
-add-at c = search needs
-
 loop-holds : tie.Need-loop-holds Inv-loop μ-loop
 loop-holds c =
     let a = c .before .before .before .before .args in
@@ -35,9 +32,6 @@ loop-holds c =
 
 entry-at-requires : tie.Need-entry-at-requires Inv-loop μ-loop
 entry-at-requires c κs = room-fewer (omega arith) (c .before .before .before .before .before .before .pre .1 .0 .room)
-
-mul-place : tie.Need-mul-place Inv-loop μ-loop
-mul-place c = search needs
 
 shared-slice-read-place : tie.Need-shared-slice-read-place Inv-loop μ-loop
 shared-slice-read-place c = let s = c .before .before .before .before .before .before .before .before in omega (arith, s .pre .1 .1 .room, s .pre .1 .0 .count)
@@ -61,12 +55,6 @@ write-cancel-requires c κs =
       ),
     )
 
-add-k : tie.Need-add-k Inv-loop μ-loop
-add-k c = search needs
-
-loop-less : tie.Need-loop-less Inv-loop μ-loop
-loop-less c = search needs
-
 loop-again : tie.Need-loop-again Inv-loop μ-loop
 loop-again c =
     let s = c .before .before .before .before .before .before .before .before .before .before .before .before .before .before in
@@ -83,12 +71,6 @@ loop-again c =
           (omega (arith, length-entries (now (a .words)) (now (a .amounts)) (a .places), s .pre .1 .0 .count)) _ _ (w .ensures .1) (w .ensures .0),
     )
 
-same-length : tie.Need-same-length Inv-loop μ-loop
-same-length c = search needs
-
-same-length-2 : tie.Need-same-length-2 Inv-loop μ-loop
-same-length-2 c = search needs
-
 returns : tie.Need-returns Inv-loop μ-loop
 returns c =
     let s = c .before .before .before .before .before .before in
@@ -104,16 +86,16 @@ write-cancels-spec =
     (tie.spec
     Inv-loop
     μ-loop
-    add-at
+    (λ c. search needs)
     loop-holds
     entry-at-requires
-    mul-place
+    (λ c. search needs)
     shared-slice-read-place
     cast-place
     write-cancel-requires
-    add-k
-    loop-less
+    (λ c. search needs)
+    (λ c. search needs)
     loop-again
-    same-length
-    same-length-2
+    (λ c. search needs)
+    (λ c. search needs)
     returns)

@@ -19,9 +19,6 @@ use Rattle.accepted_entries.proofs.Runs.{chain-room-fewer, chain-room-s
 use Rattle.accepted_entries.proofs.write_entries.Statement.{statement}
 use Rattle.accepted_entries.proofs.write_entries.Tie as tie
 
-put-requires : tie.Need-put-requires
-put-requires c κs = search needs
-
 -- the run with the file entry
 header-in : (c : tie.After-put)
     → let a = c .before .before .before .before .before .before .before .before .before .args in
@@ -79,15 +76,6 @@ write-originals-requires c κs =
 same-length : tie.Need-same-length
 same-length c = c .before .before .before .before .before .before .before .write-originals .kept .0 ∙ c .before .before .before .before .before .before .before .before .before .before .before .before .before .before .before .before .before .before .before .before .before .before .before .before .write-cancels .kept .0 ∙ c .before .before .before .before .before .before .before .before .before .before .before .before .before .before .before .before .before .before .before .before .before .before .before .before .before .before .before .before .before .before .put .kept .0
 
-same-length-2 : tie.Need-same-length-2
-same-length-2 c = search needs
-
-same-length-3 : tie.Need-same-length-3
-same-length-3 c = search needs
-
-same-length-4 : tie.Need-same-length-4
-same-length-4 c = search needs
-
 returns : tie.Need-returns
 returns c =
     let s = c .before .before .before .before .before .before .before .before .before .before .before .before .before .before .before .before .before .before .before .before .before .before .before .before .before .before .before .before .before .before .before .before .before .before .before .before .before .before .before in
@@ -103,12 +91,12 @@ pub write-entries-spec : {M : Type 1} → statement M
 write-entries-spec =
     tie.close
     (tie.spec
-    put-requires
+    (λ c κs. search needs)
     write-cancels-requires
     index-sites-requires
     write-originals-requires
     same-length
-    same-length-2
-    same-length-3
-    same-length-4
+    (λ c. search needs)
+    (λ c. search needs)
+    (λ c. search needs)
     returns)

@@ -41,9 +41,6 @@ room c = c .before .before .before .before .before .pre .1 .1 .0 (ne-eqb _ _ (c 
 state-of-requires : tie.Need-state-of-requires
 state-of-requires c κs = let s = c .before .before .before .before .before .before .before .before .before in let h = room (c .before .before .before .before) in (room-fewer (omega arith) (s .pre .0 .0), s .pre .1 .0)
 
-in-state-requires : tie.Need-in-state-requires
-in-state-requires c κs = search needs
-
 put-requires : tie.Need-put-requires
 put-requires c κs = (c .before .before .before .before .before .before .before .before .before .before .before .before .before .pre .0 .0, room (c .before .before .before .before .before .before .before .before))
 
@@ -53,25 +50,10 @@ push-requires c κs = let h = room (c .before .before .before .before .before .b
 add-t29 : tie.Need-add-t29
 add-t29 c = omega (arith, room (c .before .before .before .before .before .before .before .before .before .before .before .before .before .before .before .before .before .before .before), c .before .before .before .before .before .before .before .before .before .before .before .before .before .before .before .before .before .before .before .before .before .before .before .before .pre .0 .1 .few)
 
-count-held-requires : tie.Need-count-held-requires
-count-held-requires c κs = search needs
-
 add-t31 : tie.Need-add-t31
 add-t31 c =
     let s = c .before .before .before .before .before .before .before .before .before .before .before .before .before .before .before .before .before .before .before .before .before .before .before .before .before .before in
     omega (arith, room (c .before .before .before .before .before .before .before .before .before .before .before .before .before .before .before .before .before .before .before .before .before), s .pre .0 .1 .few, s .pre .1 .1 .1, c .before .count-held .ensures, one-at-most (eqb (c .before .before .before .before .before .before .before .before .before .before .before .before .before .before .before .before .state-of .result) 2))
-
-same-length : tie.Need-same-length
-same-length c = search needs
-
-same-length-2 : tie.Need-same-length-2
-same-length-2 c = search needs
-
-same-length-3 : tie.Need-same-length-3
-same-length-3 c = search needs
-
-same-length-4 : tie.Need-same-length-4
-same-length-4 c = search needs
 
 returns-2 : tie.Need-returns-2
 returns-2 c =
@@ -104,14 +86,14 @@ write-original-spec =
     (tie.spec
     returns
     state-of-requires
-    in-state-requires
+    (λ c κs. search needs)
     put-requires
     push-requires
     add-t29
-    count-held-requires
+    (λ c κs. search needs)
     add-t31
-    same-length
-    same-length-2
-    same-length-3
-    same-length-4
+    (λ c. search needs)
+    (λ c. search needs)
+    (λ c. search needs)
+    (λ c. search needs)
     returns-2)

@@ -61,12 +61,6 @@ write-original-requires c κs =
       ),
     )
 
-add-k : tie.Need-add-k Inv-loop μ-loop
-add-k c = search needs
-
-loop-less : tie.Need-loop-less Inv-loop μ-loop
-loop-less c = search needs
-
 loop-again : tie.Need-loop-again Inv-loop μ-loop
 loop-again c =
     let s = c .before .before .before .before .before .before .before .before .before .before .before .before .before .before .before .before .before .before .before .before in
@@ -86,18 +80,6 @@ loop-again c =
       originating-step bills (a .at) _ _ (p .k) (p .written .used) (p .written .held) (p .inv .7) h (e .result) (e .ensures ∙ s .pre .1 .1 .each (p .k) (c .before .before .before .before .before .before .before .before .before .before .before .before .before .loop-test .taken))
           (omega (arith, length-entries (now (a .words)) (now (a .amounts)) (a .places), s .pre .0 .2)) _ _ _ (w .ensures .1 .0) (w .ensures .0) (w .ensures .1 .1 .0),
     )
-
-same-length : tie.Need-same-length Inv-loop μ-loop
-same-length c = search needs
-
-same-length-2 : tie.Need-same-length-2 Inv-loop μ-loop
-same-length-2 c = search needs
-
-same-length-3 : tie.Need-same-length-3 Inv-loop μ-loop
-same-length-3 c = search needs
-
-same-length-4 : tie.Need-same-length-4 Inv-loop μ-loop
-same-length-4 c = search needs
 
 returns : tie.Need-returns Inv-loop μ-loop
 returns c =
@@ -123,11 +105,11 @@ write-originals-spec =
     loop-holds
     entry-at-requires
     write-original-requires
-    add-k
-    loop-less
+    (λ c. search needs)
+    (λ c. search needs)
     loop-again
-    same-length
-    same-length-2
-    same-length-3
-    same-length-4
+    (λ c. search needs)
+    (λ c. search needs)
+    (λ c. search needs)
+    (λ c. search needs)
     returns)

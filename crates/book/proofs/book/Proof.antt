@@ -26,29 +26,14 @@ fit c = sym (c .before .settings-fit .ensures) ∙ not-false _ (c .if1 .left)
 ready : (c : tie.Else2) → Ready (input (c .before .before .before .before .before .before .before .before .before))
 ready c = record { fit = fit (c .before .before .before .before); sound = sym (c .before .is-sound .ensures) ∙ not-false _ (c .if2 .left) }
 
-settings-fit-requires : tie.Need-settings-fit-requires
-settings-fit-requires c κs = search needs
-
 returns : tie.Need-returns
 returns c = let s = c .before .before .before .before .before in refuses (input s) 104 0 (refused-104 (input s) (sym (c .before .settings-fit .ensures) ∙ not-true _ (c .if1 .taken))) (λ z. omega (arith, z))
 
 is-sound-requires : tie.Need-is-sound-requires
 is-sound-requires c κs = let s = c .before .before .before .before .before .before .before in used-room (now (s .args .words)) (now (s .args .amounts)) (s .args .places) (s .args .used) (s .pre)
 
-same-length : tie.Need-same-length
-same-length c = search needs
-
-same-length-2 : tie.Need-same-length-2
-same-length-2 c = search needs
-
 returns-2 : tie.Need-returns-2
 returns-2 c = let s = c .before .before .before .before .before .before .before .before .before in refuses (input s) 105 0 (refused-105 (input s) (fit (c .before .before .before .before)) (sym (c .before .is-sound .ensures) ∙ not-true _ (c .if2 .taken))) (λ z. omega (arith, z))
-
-same-length-3 : tie.Need-same-length-3
-same-length-3 c = search needs
-
-same-length-4 : tie.Need-same-length-4
-same-length-4 c = search needs
 
 returns-3 : tie.Need-returns-3
 returns-3 c = let s = c .before .before .before .before .before .before .before .before .before .before in refuses (input s) 103 0 (refused-103 (input s) (ready (c .before)) (too-many-bytes (now (s .args .file)) (c .if3 .taken))) (λ z. omega (arith, z))
@@ -56,29 +41,20 @@ returns-3 c = let s = c .before .before .before .before .before .before .before 
 book-file-requires : tie.Need-book-file-requires
 book-file-requires c κs = let s = c .before .before .before .before .before .before .before .before .before .before .before .before in ((run-room (now (s .args .words)) (now (s .args .amounts)) (s .args .places) (s .args .used) (ready (c .before .before .before) .sound) (s .pre), omega (arith, c .before .before .if3 .left)), ready (c .before .before .before))
 
-same-length-5 : tie.Need-same-length-5
-same-length-5 c = search needs
-
-same-length-6 : tie.Need-same-length-6
-same-length-6 c = search needs
-
-returns-4 : tie.Need-returns-4
-returns-4 c = search needs
-
 pub book-spec : {M : Type 1} → statement M
 book-spec =
     tie.close
     (tie.spec
-    settings-fit-requires
+    (λ c κs. search needs)
     returns
     is-sound-requires
-    same-length
-    same-length-2
+    (λ c. search needs)
+    (λ c. search needs)
     returns-2
-    same-length-3
-    same-length-4
+    (λ c. search needs)
+    (λ c. search needs)
     returns-3
     book-file-requires
-    same-length-5
-    same-length-6
-    returns-4)
+    (λ c. search needs)
+    (λ c. search needs)
+    (λ c. search needs))

@@ -30,41 +30,17 @@ input s retailer distributors = inputOf retailer distributors (now (s .args .fil
 tests : (c : tie.After-first-refusal) (retailer : ℕ) (distributors : List ℕ) → c .first-refusal .result ≡ firstRefusal (ledgerTests (input (c .before .before .before .before .before .before .before .before .before) retailer distributors))
 tests c retailer distributors = let s = c .before .before .before .before .before .before .before .before .before in c .first-refusal .ensures .0 ∙ ap firstRefusal (same-tests (now (s .args .words)) (now (s .args .amounts)) (s .args .places) (s .args .used) (fileIn (now (s .args .file))) (s .pre .0 .2))
 
-slice-aggregate-first-refusal : tie.Need-slice-aggregate-first-refusal
-slice-aggregate-first-refusal c = search needs
-
 first-refusal-requires : tie.Need-first-refusal-requires
 first-refusal-requires c κs = let s = c .before .before .before .before .before .before .before .before in ((room-fewer (s .pre .0 .2) (s .pre .0 .0), omega (arith, s .pre .0 .1, s .pre .0 .2), s .pre .1 .1 .few), s .pre .1)
 
-same-length : tie.Need-same-length
-same-length c = search needs
-
-same-length-2 : tie.Need-same-length-2
-same-length-2 c = search needs
-
 returns : tie.Need-returns
 returns c = let r = c .before .before .before .first-refusal in λ retailer distributors t. refuses (input (c .before .before .before .before .before .before .before .before .before .before .before .before) retailer distributors) (r .result .number) (r .result .line) (refused-ledger (input (c .before .before .before .before .before .before .before .before .before .before .before .before) retailer distributors) t (tests (c .before .before .before) retailer distributors)) (c .if1 .taken)
-
-slice-aggregate-write-entries : tie.Need-slice-aggregate-write-entries
-slice-aggregate-write-entries c = search needs
-
-slice-aggregate-write-entries-2 : tie.Need-slice-aggregate-write-entries-2
-slice-aggregate-write-entries-2 c = search needs
-
-slice-aggregate-write-entries-3 : tie.Need-slice-aggregate-write-entries-3
-slice-aggregate-write-entries-3 c = search needs
 
 write-entries-requires : tie.Need-write-entries-requires
 write-entries-requires c κs = let s = c .before .before .before .before .before .before .before .before .before .before .before .before .before .before .before .before .before in let named = c .before .before .before .before .before .before .before .before .first-refusal .ensures .1 (c .before .before .before .before .before .if1 .left) in ((s .pre .0 .0, chain-room 8192 (s .args .places) (omega arith) (omega arith) (s .pre .0 .1), named .1), ((zeros 8192, s .pre .1 .0), (s .pre .1 .1 .source, subst (λ (l : List Entry). Named l (fileIn (now (s .args .file)) .bills) (c .before .before .before .before .before .before .before .before .first-refusal .last .1 .1 .1 .1 .1 .1 .1 .1 .1 .1 .1 .0)) (sym (take-entries (now (s .args .words)) (now (s .args .amounts)) (s .args .used) (s .args .places) (s .pre .0 .2))) (named .0))))
 
 accepted-requires : tie.Need-accepted-requires
 accepted-requires c κs = c .before .before .before .before .before .before .before .before .before .before .before .before .before .before .before .before .before .before .before .before .before .before .before .pre .1 .1 .few
-
-same-length-3 : tie.Need-same-length-3
-same-length-3 c = search needs
-
-same-length-4 : tie.Need-same-length-4
-same-length-4 c = search needs
 
 returns-2 : tie.Need-returns-2
 returns-2 c = let s = c .before .before .before .before .before .before .before .before .before .before .before .before .before .before .before .before .before .before .before .before .before .before .before .before in let w = c .before .before .before .before .before .before .write-entries in λ retailer distributors t. accepts (input s retailer distributors) (s .args .n) (w .result .used) (w .result .held) (c .accepted .result) _ (c .accepted .ensures) (ap (λ (o : Outcome). o .number) (refused-ledger (input s retailer distributors) t (tests (c .before .before .before .before .before .before .before .before .before .before .before .before .before .before .before) retailer distributors)) ∙ c .before .before .before .before .before .before .before .before .before .before .before .before .if1 .left) (omega (arith, length-entries (now (s .args .words)) (now (s .args .amounts)) (s .args .places), s .pre .0 .2)) (s .pre .1 .1 .source .count) (w .ensures .0) (w .ensures .1 .0) (w .ensures .1 .1)
@@ -73,16 +49,16 @@ pub book-bills-spec : {M : Type 1} → statement M
 book-bills-spec =
     tie.close
     (tie.spec
-    slice-aggregate-first-refusal
+    (λ c. search needs)
     first-refusal-requires
-    same-length
-    same-length-2
+    (λ c. search needs)
+    (λ c. search needs)
     returns
-    slice-aggregate-write-entries
-    slice-aggregate-write-entries-2
-    slice-aggregate-write-entries-3
+    (λ c. search needs)
+    (λ c. search needs)
+    (λ c. search needs)
     write-entries-requires
     accepted-requires
-    same-length-3
-    same-length-4
+    (λ c. search needs)
+    (λ c. search needs)
     returns-2)

@@ -38,38 +38,8 @@ many c =
     ⊎-elim (λ h. omega (arith, c .before .before .before .before .find-lines .kept .1 .0, length-replicate {A = ℕ} 4096 0)) (λ h. omega (arith, c .before .before .before .before .find-lines .kept .1 .1 .0, length-replicate {A = ℕ} 4096 0))
     (subst (LinesFound (now (entry (c .before .before .before .before) .args .file)) (c .before .before .before .before .find-lines .last .1 .0) (c .before .before .before .before .find-lines .last .1 .1 .0)) (c .enum-told .given .1) (c .before .before .before .before .find-lines .ensures))
 
-slice-aggregate-find-lines : tie.Need-slice-aggregate-find-lines
-slice-aggregate-find-lines c = search needs
-
-slice-aggregate-find-lines-2 : tie.Need-slice-aggregate-find-lines-2
-slice-aggregate-find-lines-2 c = search needs
-
-find-lines-requires : tie.Need-find-lines-requires
-find-lines-requires c κs = search needs
-
-enum-known-n : tie.Need-enum-known-n
-enum-known-n c = search needs
-
-slice-aggregate-book-lines : tie.Need-slice-aggregate-book-lines
-slice-aggregate-book-lines c = search needs
-
-slice-aggregate-book-lines-2 : tie.Need-slice-aggregate-book-lines-2
-slice-aggregate-book-lines-2 c = search needs
-
 book-lines-requires : tie.Need-book-lines-requires
 book-lines-requires c κs = let s = c .before .before .before .before .before .before .before .before .before .before .before .before .before .before .before in (s .pre .0 .0, (record { ready = s .pre .1; small = within-limits (now (s .args .file)) (s .pre .0 .1) (omega (arith, few (c .before .before .before .before .before), placed (c .before .before .before .before .before) .count)) }, (placed (c .before .before .before .before .before), few (c .before .before .before .before .before))))
-
-enum-told : tie.Need-enum-told
-enum-told c = search needs
-
-same-length : tie.Need-same-length
-same-length c = search needs
-
-same-length-2 : tie.Need-same-length-2
-same-length-2 c = search needs
-
-returns : tie.Need-returns
-returns c = search needs
 
 returns-2 : tie.Need-returns-2
 returns-2 c = let s = entry (c .before .before .before .before) in refuses (input s) 103 0 (refused-103 (input s) (s .pre .1) (too-many-lines (now (s .args .file)) (s .pre .0 .1) (many c))) (λ z. omega (arith, z))
@@ -78,15 +48,15 @@ pub book-file-spec : {M : Type 1} → statement M
 book-file-spec =
     tie.close
     (tie.spec
-    slice-aggregate-find-lines
-    slice-aggregate-find-lines-2
-    find-lines-requires
-    enum-known-n
-    slice-aggregate-book-lines
-    slice-aggregate-book-lines-2
+    (λ c. search needs)
+    (λ c. search needs)
+    (λ c κs. search needs)
+    (λ c. search needs)
+    (λ c. search needs)
+    (λ c. search needs)
     book-lines-requires
-    enum-told
-    same-length
-    same-length-2
-    returns
+    (λ c. search needs)
+    (λ c. search needs)
+    (λ c. search needs)
+    (λ c. search needs)
     returns-2)

@@ -15,29 +15,11 @@ use Rattle.book.proofs.book_in_room.Tie as tie
 abbrev input : tie.Start → Input
 input s = inputOf (s .args .retailer) (now (s .args .distributors)) (now (s .args .file)) (entriesOf (now (s .args .words)) (now (s .args .amounts)) (s .args .places)) (s .args .used)
 
-check-in-room-requires : tie.Need-check-in-room-requires
-check-in-room-requires c κs = search needs
-
-same-length : tie.Need-same-length
-same-length c = search needs
-
-same-length-2 : tie.Need-same-length-2
-same-length-2 c = search needs
-
-same-length-3 : tie.Need-same-length-3
-same-length-3 c = search needs
-
 returns : tie.Need-returns
 returns c = let s = c .before .before .before .before .before .before .before .before .before .before .before .before .before .before .before .before .before .before .before in let r = c .before .before .before .before .before .before .check-in-room in refuses (input s) (r .result .number) (r .result .line) (refused-tests (input s) (s .pre .1 .0) (r .ensures .0) (c .if1 .taken)) (c .if1 .taken)
 
 book-passing-requires : tie.Need-book-passing-requires
 book-passing-requires c κs = let s = c .before .before .before .before .before .before .before .before .before .before .before .before .before .before .before .before .before .before .before .before .before .before .before .before .before .before .before .before in let sizes = run-sizes (now (s .args .words)) (now (s .args .amounts)) (s .args .places) (s .args .used) (s .pre .1 .0 .ready .sound) in ((s .pre .0, sizes .0, sizes .1), (c .before .before .before .before .before .before .before .before .before .before .before .before .before .before .before .check-in-room .ensures .1 (c .before .before .before .before .before .before .before .before .before .if1 .left), s .pre .1 .1 .1 .bills))
-
-same-length-4 : tie.Need-same-length-4
-same-length-4 c = search needs
-
-same-length-5 : tie.Need-same-length-5
-same-length-5 c = search needs
 
 same-length-6 : tie.Need-same-length-6
 same-length-6 c = c .before .before .before .before .before .before .before .before .before .before .before .before .before .before .before .before .before .before .before .before .before .before .before .before .before .before .check-in-room .kept .1 .1 .1 .1 .1 .1 .0
@@ -48,18 +30,6 @@ same-length-7 c = c .before .before .before .before .before .before .before .bef
 same-length-8 : tie.Need-same-length-8
 same-length-8 c = c .before .before .before .before .before .before .before .before .before .before .before .before .before .before .before .before .before .before .before .before .before .before .before .before .before .before .check-in-room .kept .1 .1 .1 .1 .1 .1 .1 .1 .0
 
-same-length-9 : tie.Need-same-length-9
-same-length-9 c = search needs
-
-same-length-10 : tie.Need-same-length-10
-same-length-10 c = search needs
-
-same-length-11 : tie.Need-same-length-11
-same-length-11 c = search needs
-
-same-length-12 : tie.Need-same-length-12
-same-length-12 c = search needs
-
 returns-2 : tie.Need-returns-2
 returns-2 c = let s = c .before .before .before .before .before .before .before .before .before .before .before .before .before .before .before .before .before .before .before .before .before .before .before .before .before .before .before .before .before .before .before .before .before .before .before .before .before .before .before in c .before .before .before .before .before .before .before .before .before .before .book-passing .ensures (s .args .retailer) (now (s .args .distributors)) (record { opened = s .pre .1 .0; passes = sym (ap (λ (o : Outcome). o .number) (c .before .before .before .before .before .before .before .before .before .before .before .before .before .before .before .before .before .before .before .before .before .before .before .before .before .before .check-in-room .ensures .0)) ∙ c .before .before .before .before .before .before .before .before .before .before .before .before .before .before .before .before .before .before .before .before .if1 .left })
 
@@ -67,19 +37,19 @@ pub book-in-room-spec : {M : Type 1} → statement M
 book-in-room-spec =
     tie.close
     (tie.spec
-    check-in-room-requires
-    same-length
-    same-length-2
-    same-length-3
+    (λ c κs. search needs)
+    (λ c. search needs)
+    (λ c. search needs)
+    (λ c. search needs)
     returns
     book-passing-requires
-    same-length-4
-    same-length-5
+    (λ c. search needs)
+    (λ c. search needs)
     same-length-6
     same-length-7
     same-length-8
-    same-length-9
-    same-length-10
-    same-length-11
-    same-length-12
+    (λ c. search needs)
+    (λ c. search needs)
+    (λ c. search needs)
+    (λ c. search needs)
     returns-2)

@@ -17,24 +17,6 @@ read-bills-requires c κs = let s = c .before .before .before .before .before .b
 book-bills-requires : tie.Need-book-bills-requires
 book-bills-requires c κs = let s = c .before .before .before .before .before .before .before .before .before .before .before .before .before .before .before .before .before .before .before .before .before .before .before .before .before .before .before in (s .pre .0, (c .before .before .before .before .before .before .before .before .before .before .before .before .before .before .before .before .before .before .read-header .ensures, bills-read (linesOf (now (s .args .file))) (s .args .n) (c .before .before .before .before .before .before .before .before .before .before .before .before .before .read-bills .result) _ _ _ _ (s .pre .1 .0 .placed .count) (s .pre .1 .0 .few) (omega (arith, c .before .before .before .before .before .before .before .before .before .before .before .before .before .read-bills .kept .1 .1 .1 .1 .1 .1 .1 .1 .1 .1 .1 .1 .0, s .pre .1 .1 .at-room)) (c .before .before .before .before .before .before .before .before .before .before .before .before .before .read-bills .ensures)))
 
-same-length : tie.Need-same-length
-same-length c = search needs
-
-same-length-2 : tie.Need-same-length-2
-same-length-2 c = search needs
-
-same-length-3 : tie.Need-same-length-3
-same-length-3 c = search needs
-
-same-length-4 : tie.Need-same-length-4
-same-length-4 c = search needs
-
-same-length-5 : tie.Need-same-length-5
-same-length-5 c = search needs
-
-same-length-6 : tie.Need-same-length-6
-same-length-6 c = search needs
-
 returns : tie.Need-returns
 returns c = c .before .before .before .book-bills .ensures
 
@@ -45,10 +27,10 @@ book-passing-spec =
     read-header-requires
     read-bills-requires
     book-bills-requires
-    same-length
-    same-length-2
-    same-length-3
-    same-length-4
-    same-length-5
-    same-length-6
+    (λ c. search needs)
+    (λ c. search needs)
+    (λ c. search needs)
+    (λ c. search needs)
+    (λ c. search needs)
+    (λ c. search needs)
     returns)

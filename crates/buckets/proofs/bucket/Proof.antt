@@ -9,12 +9,6 @@ use native.Mathlib.Omega.{arith}
 use Rattle.buckets.proofs.bucket.Statement.{statement}
 use Rattle.buckets.proofs.bucket.Tie as tie
 
-add-result : tie.Need-add-result
-add-result c = search needs
-
-mul-result : tie.Need-mul-result
-mul-result c = search needs
-
 mul-result-2 : tie.Need-mul-result-2
 mul-result-2 c = omega (arith, bucket-fits ((c .args .value % 4294967296 + c .args .value / 4294967296) * 2135587861 / 2 % 4294967296) (c .args .size) (omega arith) (c .pre .1))
 
@@ -23,4 +17,4 @@ unfolding bucketOf
 returns c = (refl, bucket-below ((c .args .value % 4294967296 + c .args .value / 4294967296) * 2135587861 / 2 % 4294967296) (c .args .size) (omega arith) (c .pre .0))
 
 pub bucket-spec : {M : Type 1} → statement M
-bucket-spec = tie.close (tie.spec add-result mul-result mul-result-2 returns)
+bucket-spec = tie.close (tie.spec (λ c. search needs) (λ c. search needs) mul-result-2 returns)

@@ -22,9 +22,6 @@ loop-holds c = unrepeated-none _ _ _ _ (c .before .before .pre .1)
 put-requires : tie.Need-put-requires Inv-loop μ-loop
 put-requires c κs = let p = c .before .before .loop in let pre = c .before .before .before .before .before .pre .0 in ((omega arith, pre .1, pre .2, omega (arith, pre, p .inv .grown .long), omega arith), p .inv .grown .indexed)
 
-same-length : tie.Need-same-length Inv-loop μ-loop
-same-length c = search needs
-
 returns : tie.Need-returns Inv-loop μ-loop
 returns c =
     let put = c .before .before .before .put in
@@ -33,17 +30,8 @@ returns c =
       λ e. absurd (omega (arith, e, less)),
     )
 
-add-i : tie.Need-add-i Inv-loop μ-loop
-add-i c = search needs
-
-loop-less : tie.Need-loop-less Inv-loop μ-loop
-loop-less c = search needs
-
 loop-again : tie.Need-loop-again Inv-loop μ-loop
 loop-again c = let put = c .before .before .before .put in unrepeated-more _ (now (c .before .before .before .before .before .before .before .before .before .args .values)) _ _ (c .before .before .before .before .before .loop-test .taken) _ (put .kept .1 .1 .1 .0) (put .ensures) (c .if1 .left) (c .before .before .before .before .before .before .loop .inv)
-
-same-length-2 : tie.Need-same-length-2 Inv-loop μ-loop
-same-length-2 c = search needs
 
 returns-2 : tie.Need-returns-2 Inv-loop μ-loop
 returns-2 c =
@@ -60,10 +48,10 @@ first-repeated-spec =
     μ-loop
     loop-holds
     put-requires
-    same-length
+    (λ c. search needs)
     returns
-    add-i
-    loop-less
+    (λ c. search needs)
+    (λ c. search needs)
     loop-again
-    same-length-2
+    (λ c. search needs)
     returns-2)

@@ -9,15 +9,6 @@ use borrow.Author.Needs.{needs}
 use Rattle.buckets.proofs.head.Statement.{statement}
 use Rattle.buckets.proofs.head.Tie as tie
 
-bucket-requires : tie.Need-bucket-requires
-bucket-requires c κs = search needs
-
-mul-result : tie.Need-mul-result
-mul-result c = search needs
-
-shared-slice-read-result : tie.Need-shared-slice-read-result
-shared-slice-read-result c = search needs
-
 cast-result : tie.Need-cast-result
 cast-result c = omega (arith, c .shared-slice-known2 .given (c .before .bucket .result))
 
@@ -26,4 +17,4 @@ returns c = ap (λ (b : ℕ). getD (now (c .before .before .before .args .heads)
 
 pub head-spec : {M : Type 1} → statement M
 head-spec =
-    tie.close (tie.spec bucket-requires mul-result shared-slice-read-result cast-result returns)
+    tie.close (tie.spec (λ c κs. search needs) (λ c. search needs) (λ c. search needs) cast-result returns)

@@ -23,29 +23,11 @@ put-requires c κs = let p = c .before .before .loop in let pre = c .before .bef
 cast-leaders : tie.Need-cast-leaders Inv-loop μ-loop
 cast-leaders c = omega (arith, first-no-later (now (c .before .before .before .before .before .before .before .before .before .args .values)) (c .before .before .before .before .before .loop .i) (c .before .before .put .ensures .1))
 
-mul-leaders : tie.Need-mul-leaders Inv-loop μ-loop
-mul-leaders c = search needs
-
-slice-write-leaders : tie.Need-slice-write-leaders Inv-loop μ-loop
-slice-write-leaders c = search needs
-
-add-i : tie.Need-add-i Inv-loop μ-loop
-add-i c = search needs
-
-loop-less : tie.Need-loop-less Inv-loop μ-loop
-loop-less c = search needs
-
 loop-again : tie.Need-loop-again Inv-loop μ-loop
 loop-again c =
     let s = c .before .before .before .before .before .before .before .before .before in
     let put = c .before .before .put in
     indexing-more _ (now (s .args .values)) _ _ (c .before .before .before .before .loop-test .taken) _ (put .kept .1 .1 .1 .0) (put .ensures) (s .pre .0 .5) (c .before .before .before .before .before .loop .inv)
-
-same-length : tie.Need-same-length Inv-loop μ-loop
-same-length c = search needs
-
-same-length-2 : tie.Need-same-length-2 Inv-loop μ-loop
-same-length-2 c = search needs
 
 returns : tie.Need-returns Inv-loop μ-loop
 returns c = indexing-end _ _ _ _ (omega (arith, c .loop-test .left)) (c .before .loop .inv)
@@ -59,11 +41,11 @@ index-spec =
     loop-holds
     put-requires
     cast-leaders
-    mul-leaders
-    slice-write-leaders
-    add-i
-    loop-less
+    (λ c. search needs)
+    (λ c. search needs)
+    (λ c. search needs)
+    (λ c. search needs)
     loop-again
-    same-length
-    same-length-2
+    (λ c. search needs)
+    (λ c. search needs)
     returns)

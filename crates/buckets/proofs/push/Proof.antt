@@ -10,39 +10,6 @@ use borrow.Author.Needs.{needs}
 use Rattle.buckets.proofs.push.Statement.{statement}
 use Rattle.buckets.proofs.push.Tie as tie
 
-bucket-requires : tie.Need-bucket-requires
-bucket-requires c κs = search needs
-
-mul-links : tie.Need-mul-links
-mul-links c = search needs
-
-slice-read-links : tie.Need-slice-read-links
-slice-read-links c = search needs
-
-mul-links-2 : tie.Need-mul-links-2
-mul-links-2 c = search needs
-
-slice-write-links : tie.Need-slice-write-links
-slice-write-links c = search needs
-
-add-heads : tie.Need-add-heads
-add-heads c = search needs
-
-cast-heads : tie.Need-cast-heads
-cast-heads c = search needs
-
-mul-heads : tie.Need-mul-heads
-mul-heads c = search needs
-
-slice-write-heads : tie.Need-slice-write-heads
-slice-write-heads c = search needs
-
-same-length : tie.Need-same-length
-same-length c = search needs
-
-same-length-2 : tie.Need-same-length-2
-same-length-2 c = search needs
-
 returns : tie.Need-returns
 returns c =
     let s = c .before .before .before .before in
@@ -57,15 +24,15 @@ pub push-spec : {M : Type 1} → statement M
 push-spec =
     tie.close
     (tie.spec
-    bucket-requires
-    mul-links
-    slice-read-links
-    mul-links-2
-    slice-write-links
-    add-heads
-    cast-heads
-    mul-heads
-    slice-write-heads
-    same-length
-    same-length-2
+    (λ c κs. search needs)
+    (λ c. search needs)
+    (λ c. search needs)
+    (λ c. search needs)
+    (λ c. search needs)
+    (λ c. search needs)
+    (λ c. search needs)
+    (λ c. search needs)
+    (λ c. search needs)
+    (λ c. search needs)
+    (λ c. search needs)
     returns)

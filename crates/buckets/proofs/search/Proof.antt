@@ -14,35 +14,17 @@ Inv-loop values m size tree value slot₀ content₀ rest₀ slot content rest =
 abbrev μ-loop : tie.MeasureT-loop
 μ-loop values m size tree value slot₀ content₀ rest₀ slot content rest = distance m content
 
-bucket-requires : tie.Need-bucket-requires Inv-loop μ-loop
-bucket-requires c κs = search needs
-
-mul-content : tie.Need-mul-content Inv-loop μ-loop
-mul-content c = search needs
-
-shared-slice-read-content : tie.Need-shared-slice-read-content Inv-loop μ-loop
-shared-slice-read-content c = search needs
-
 cast-content : tie.Need-cast-content Inv-loop μ-loop
 cast-content c = omega (arith, c .shared-slice-known3 .given (c .before .bucket .result))
 
 loop-holds : tie.Need-loop-holds Inv-loop μ-loop
 loop-holds c = let s = c .before .before .before .before in walk-start _ _ _ _ (s .pre .1) _ _ (c .before .bucket .ensures .0) (c .before .bucket .ensures .1)
 
-sub-if1 : tie.Need-sub-if1 Inv-loop μ-loop
-sub-if1 c = search needs
-
-mul-if1 : tie.Need-mul-if1 Inv-loop μ-loop
-mul-if1 c = search needs
-
 shared-slice-read-if1 : tie.Need-shared-slice-read-if1 Inv-loop μ-loop
 shared-slice-read-if1 c = omega (arith, c .before .before .loop .inv .few)
 
 returns : tie.Need-returns Inv-loop μ-loop
 returns c = let s = c .before .before .before .before .before .before .before .before in walk-found _ _ _ _ (s .pre .1) _ (c .before .before .before .loop .inv) (c .before .before .loop-test .taken) (c .if1 .taken) _ refl refl
-
-sub-slot : tie.Need-sub-slot Inv-loop μ-loop
-sub-slot c = search needs
 
 mul-slot : tie.Need-mul-slot Inv-loop μ-loop
 mul-slot c = omega (arith, c .before .before .before .loop .inv .few)
@@ -74,4 +56,4 @@ returns-2 : tie.Need-returns-2 Inv-loop μ-loop
 returns-2 c = let s = c .before .before .before .before .before .before in walk-end _ _ _ _ (s .pre .1) _ (c .before .loop .inv) (c .loop-test .left) _ refl refl
 
 pub search-spec : {M : Type 1} → statement M
-search-spec = tie.close (tie.spec Inv-loop μ-loop bucket-requires mul-content shared-slice-read-content cast-content loop-holds sub-if1 mul-if1 shared-slice-read-if1 returns sub-slot mul-slot add-slot add-slot-2 mul-content-2 shared-slice-read-content-2 cast-content-2 loop-less loop-again returns-2)
+search-spec = tie.close (tie.spec Inv-loop μ-loop (λ c κs. search needs) (λ c. search needs) (λ c. search needs) cast-content loop-holds (λ c. search needs) (λ c. search needs) shared-slice-read-if1 returns (λ c. search needs) mul-slot add-slot add-slot-2 mul-content-2 shared-slice-read-content-2 cast-content-2 loop-less loop-again returns-2)

@@ -22,23 +22,8 @@ returns-4 c = sym (date-is-not _ _ _ (λ date. omega arith))
 returns-5 : tie.Need-returns-5
 returns-5 c = sym (date-is-not _ _ _ (λ date. omega arith))
 
-mul-k : tie.Need-mul-k
-mul-k c = search needs
-
-add-k : tie.Need-add-k
-add-k c = search needs
-
-month-days-requires : tie.Need-month-days-requires
-month-days-requires c κs = search needs
-
 returns-6 : tie.Need-returns-6
 returns-6 c = sym (date-is-not _ _ _ (λ date. omega arith))
-
-first-day-requires : tie.Need-first-day-requires
-first-day-requires c κs = search needs
-
-add-t7 : tie.Need-add-t7
-add-t7 c = search needs
 
 returns-7 : tie.Need-returns-7
 returns-7 c = rw (c .first-day .ensures .0) (sym (date-is _ _ _ (omega arith)))
@@ -52,10 +37,10 @@ date-day-spec =
     returns-3
     returns-4
     returns-5
-    mul-k
-    add-k
-    month-days-requires
+    (λ c. search needs)
+    (λ c. search needs)
+    (λ c κs. search needs)
     returns-6
-    first-day-requires
-    add-t7
+    (λ c κs. search needs)
+    (λ c. search needs)
     returns-7)

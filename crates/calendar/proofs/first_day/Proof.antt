@@ -12,9 +12,6 @@ use Rattle.calendar.proofs.Days.{table-length, rule, bound}
 use Rattle.calendar.proofs.first_day.Statement.{statement}
 use Rattle.calendar.proofs.first_day.Tie as tie
 
-mul-result : tie.Need-mul-result
-mul-result c = search needs
-
 shared-slice-read-result : tie.Need-shared-slice-read-result
 shared-slice-read-result c = omega (arith, ap length (c .before .pre .0) ∙ table-length)
 
@@ -25,4 +22,4 @@ returns c =
     (same, subst (λ (d : ℕ). d ≤ 36494) (sym same) (bound k (c .before .pre .1)))
 
 pub first-day-spec : {M : Type 1} → statement M
-first-day-spec = tie.close (tie.spec mul-result shared-slice-read-result returns)
+first-day-spec = tie.close (tie.spec (λ c. search needs) shared-slice-read-result returns)

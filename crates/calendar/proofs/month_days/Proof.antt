@@ -9,12 +9,6 @@ use borrow.Author.Needs.{needs}
 use Rattle.calendar.proofs.month_days.Statement.{statement}
 use Rattle.calendar.proofs.month_days.Tie as tie
 
-add-leap : tie.Need-add-leap
-add-leap c = search needs
-
-leap-requires : tie.Need-leap-requires
-leap-requires c κs = search needs
-
 returns : tie.Need-returns
 unfolding monthDays
 returns c = simp (eq-eqb _ _ (c .before .before .match .keys1), sym (c .before .leap .ensures) ∙ c .if1 .taken)
@@ -41,4 +35,4 @@ returns-4 c =
     )
 
 pub month-days-spec : {M : Type 1} → statement M
-month-days-spec = tie.close (tie.spec add-leap leap-requires returns returns-2 returns-3 returns-4)
+month-days-spec = tie.close (tie.spec (λ c. search needs) (λ c κs. search needs) returns returns-2 returns-3 returns-4)

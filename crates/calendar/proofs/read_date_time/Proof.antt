@@ -21,30 +21,9 @@ returns c = simp (ne-eqb _ _ (c .if1 .taken))
 slice-aggregate-read-day : tie.Need-slice-aggregate-read-day
 slice-aggregate-read-day c = sym (length-take-le 8 (now (c .before .before .before .before .args .s)) (omega arith))
 
-read-day-requires : tie.Need-read-day-requires
-read-day-requires c κs = search needs
-
-enum-known-day : tie.Need-enum-known-day
-enum-known-day c = search needs
-
-enum-told : tie.Need-enum-told
-enum-told c = search needs
-
 returns-2 : tie.Need-returns-2
 unfolding dateTimeOf
 returns-2 c = simp (eq-eqb _ _ (c .before .before .before .before .if1 .left), ← c .before .before .read-day .ensures, c .enum-told .given .1)
-
-sub-digits : tie.Need-sub-digits
-sub-digits c = search needs
-
-part-digits-start : tie.Need-part-digits-start
-part-digits-start c = search needs
-
-part-digits-end : tie.Need-part-digits-end
-part-digits-end c = search needs
-
-digits-requires : tie.Need-digits-requires
-digits-requires c κs = search needs
 
 -- what the time's digits say: the part from byte 8 on
 time : (c : tie.After-digits) → digitsOf (drop 8 (now (c .before .before .before .before .before .before .before .before .before .before .args .s))) ≡ c .digits .result
@@ -52,21 +31,12 @@ time c =
     let s = now (c .before .before .before .before .before .before .before .before .before .before .args .s) in
     rw (← take-all (length s - 8) (drop 8 s) (rw length-drop (le-refl _))) (sym (c .digits .ensures))
 
-enum-known-n : tie.Need-enum-known-n
-enum-known-n c = search needs
-
-enum-told-2 : tie.Need-enum-told-2
-enum-told-2 c = search needs
-
 returns-3 : tie.Need-returns-3
 unfolding dateTimeOf
 returns-3 c =
     let read = c .before .before in
     let dated = read .before .before .before in
     simp (eq-eqb _ _ (dated .before .before .before .before .if1 .left), ← dated .before .before .read-day .ensures, dated .day .given .1, time read, c .enum-told2 .given .1)
-
-at-time-requires : tie.Need-at-time-requires
-at-time-requires c κs = search needs
 
 returns-4 : tie.Need-returns-4
 unfolding dateTimeOf
@@ -82,16 +52,16 @@ read-date-time-spec =
     (tie.spec
     returns
     slice-aggregate-read-day
-    read-day-requires
-    enum-known-day
-    enum-told
+    (λ c κs. search needs)
+    (λ c. search needs)
+    (λ c. search needs)
     returns-2
-    sub-digits
-    part-digits-start
-    part-digits-end
-    digits-requires
-    enum-known-n
-    enum-told-2
+    (λ c. search needs)
+    (λ c. search needs)
+    (λ c. search needs)
+    (λ c κs. search needs)
+    (λ c. search needs)
+    (λ c. search needs)
     returns-3
-    at-time-requires
+    (λ c κs. search needs)
     returns-4)

@@ -11,18 +11,6 @@ returns : tie.Need-returns
 unfolding dayOf
 returns c = simp (ne-eqb _ _ (c .if1 .taken))
 
-digits-requires : tie.Need-digits-requires
-digits-requires c κs = search needs
-
-enum-known-n : tie.Need-enum-known-n
-enum-known-n c = search needs
-
-date-day-requires : tie.Need-date-day-requires
-date-day-requires c κs = search needs
-
-enum-told : tie.Need-enum-told
-enum-told c = search needs
-
 returns-2 : tie.Need-returns-2
 unfolding dayOf
 returns-2 c =
@@ -36,4 +24,4 @@ returns-3 c = simp (eq-eqb _ _ (c .before .before .before .if1 .left), sym (c .b
 pub read-day-spec : {M : Type 1} → statement M
 read-day-spec =
     tie.close
-    (tie.spec returns digits-requires enum-known-n date-day-requires enum-told returns-2 returns-3)
+    (tie.spec returns (λ c κs. search needs) (λ c. search needs) (λ c κs. search needs) (λ c. search needs) returns-2 returns-3)

@@ -15,9 +15,6 @@ use native.Mathlib.Omega.{arith}
 use Rattle.codes_and_rows.proofs.codes_stand.Statement.{statement}
 use Rattle.codes_and_rows.proofs.codes_stand.Tie as tie
 
-commodity-field-requires : tie.Need-commodity-field-requires
-commodity-field-requires c κs = search needs
-
 is-either-requires : tie.Need-is-either-requires
 is-either-requires c κs = omega (arith, c .commodity-field .ensures, code-fields-small (c .before .before .before .args .record-type) .commodity, c .before .before .before .pre)
 
@@ -53,26 +50,17 @@ exemption c =
 returns : tie.Need-returns
 returns c = sym (wrong-commodity _ _ _ (commodity (c .before) ∙ not-true _ (c .if2 .taken)))
 
-unit-field-requires : tie.Need-unit-field-requires
-unit-field-requires c κs = search needs
-
 is-either-requires-2 : tie.Need-is-either-requires-2
 is-either-requires-2 c κs = omega (arith, c .unit-field .ensures, code-fields-small (c .before .before .before .before .before .before .args .record-type) .unit, c .before .before .before .before .before .before .pre)
 
 returns-2 : tie.Need-returns-2
 returns-2 c = sym (wrong-unit _ _ _ (commodity (c .before .before .before .before) ∙ not-false _ (c .before .before .before .if2 .left)) (units-stand (c .before) ∙ not-true _ (c .if3 .taken)))
 
-cancel-field-requires : tie.Need-cancel-field-requires
-cancel-field-requires c κs = search needs
-
 is-either-requires-3 : tie.Need-is-either-requires-3
 is-either-requires-3 c κs = omega (arith, c .cancel-field .ensures, code-fields-small (c .before .before .before .before .before .before .before .before .before .args .record-type) .cancel, c .before .before .before .before .before .before .before .before .before .pre)
 
 returns-3 : tie.Need-returns-3
 returns-3 c = sym (wrong-cancel _ _ _ (commodity (c .before .before .before .before .before .before .before) ∙ not-false _ (c .before .before .before .before .before .before .if2 .left)) (units-stand (c .before .before .before .before) ∙ not-false _ (c .before .before .before .if3 .left)) (cancel (c .before) ∙ not-true _ (c .if4 .taken)))
-
-exemption-field-requires : tie.Need-exemption-field-requires
-exemption-field-requires c κs = search needs
 
 is-either-requires-4 : tie.Need-is-either-requires-4
 is-either-requires-4 c κs = omega (arith, c .exemption-field .ensures, code-fields-small (c .before .before .before .before .before .before .before .before .before .before .before .before .args .record-type) .exemption, c .before .before .before .before .before .before .before .before .before .before .before .before .pre)
@@ -84,15 +72,15 @@ pub codes-stand-spec : {M : Type 1} → statement M
 codes-stand-spec =
     tie.close
     (tie.spec
-    commodity-field-requires
+    (λ c κs. search needs)
     is-either-requires
     returns
-    unit-field-requires
+    (λ c κs. search needs)
     is-either-requires-2
     returns-2
-    cancel-field-requires
+    (λ c κs. search needs)
     is-either-requires-3
     returns-3
-    exemption-field-requires
+    (λ c κs. search needs)
     is-either-requires-4
     returns-4)

@@ -9,20 +9,8 @@ use Rattle.codes_and_rows.proofs.is_either.Tie as tie
 returns : tie.Need-returns
 returns c = sym (simp (eq-eqb _ _ (c .if1 .taken)))
 
-mul-if2 : tie.Need-mul-if2
-mul-if2 c = search needs
-
-shared-slice-read-if2 : tie.Need-shared-slice-read-if2
-shared-slice-read-if2 c = search needs
-
 returns-2 : tie.Need-returns-2
 returns-2 c = sym (simp (ne-eqb _ _ (c .before .before .if1 .left), eq-eqb _ _ (c .if2 .taken)))
-
-mul-result : tie.Need-mul-result
-mul-result c = search needs
-
-shared-slice-read-result : tie.Need-shared-slice-read-result
-shared-slice-read-result c = search needs
 
 returns-3 : tie.Need-returns-3
 returns-3 c = sym (simp (ne-eqb _ _ (c .before .before .before .if1 .left), ne-eqb _ _ (c .before .if2 .left)))
@@ -32,9 +20,9 @@ is-either-spec =
     tie.close
     (tie.spec
     returns
-    mul-if2
-    shared-slice-read-if2
+    (λ c. search needs)
+    (λ c. search needs)
     returns-2
-    mul-result
-    shared-slice-read-result
+    (λ c. search needs)
+    (λ c. search needs)
     returns-3)

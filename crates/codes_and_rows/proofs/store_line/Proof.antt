@@ -44,28 +44,10 @@ inside c column h = column-inside _ column h
 wide : (c : tie.Start Inv-loop μ-loop) → length (set (now (c .args .words)) (c .args .i) (c .args .record-type)) ≡ 8 * length (now (c .args .charges))
 wide c = length-set (now (c .args .words)) (c .args .i) (c .args .record-type) ∙ c .pre .1 .0 .words-length
 
-mul-words : tie.Need-mul-words Inv-loop μ-loop
-mul-words c = search needs
-
-slice-write-words : tie.Need-slice-write-words Inv-loop μ-loop
-slice-write-words c = search needs
-
 loop-holds : tie.Need-loop-holds Inv-loop μ-loop
 loop-holds c =
     let a = c .before .before .args in
     (omega arith, omega arith, type-stored (a .record-type) (now (a .numbers)) (length (now (a .charges))) (a .i) (now (a .words)) (omega arith) (omega arith))
-
-mul-k : tie.Need-mul-k Inv-loop μ-loop
-mul-k c = search needs
-
-mul-k-2 : tie.Need-mul-k-2 Inv-loop μ-loop
-mul-k-2 c = search needs
-
-index-1-k : tie.Need-index-1-k Inv-loop μ-loop
-index-1-k c = search needs
-
-index-2-k : tie.Need-index-2-k Inv-loop μ-loop
-index-2-k c = search needs
 
 mul-words-2 : tie.Need-mul-words-2 Inv-loop μ-loop
 mul-words-2 c = omega (arith, small (c .before .before .before .before .before) (c .before .before .loop .c) (omega arith))
@@ -85,12 +67,6 @@ mul-words-4 c = omega (arith, inside (c .before .before .before .before .before 
 slice-write-words-2 : tie.Need-slice-write-words-2 Inv-loop μ-loop
 slice-write-words-2 c = omega (arith, inside (c .before .before .before .before .before .before) (c .before .before .before .loop .c) (omega arith), c .before .before .before .loop .inv .2 .size, wide (c .before .before .before .before .before .before))
 
-add-c : tie.Need-add-c Inv-loop μ-loop
-add-c c = search needs
-
-loop-less : tie.Need-loop-less Inv-loop μ-loop
-loop-less c = search needs
-
 loop-again : tie.Need-loop-again Inv-loop μ-loop
 loop-again c =
     let at = c .before .before .before .loop in
@@ -100,41 +76,14 @@ loop-again c =
       row-more (at .inv .2) (omega arith) (omega (arith, inside start (at .c) (omega arith), wide start)) _ (stored-number _ _ (at .c) _ (at .inv .0) (c .before .before .loop-test .taken) (said start (at .c) (omega arith))),
     )
 
-mul-cancel : tie.Need-mul-cancel Inv-loop μ-loop
-mul-cancel c = search needs
-
-index-1-cancel : tie.Need-index-1-cancel Inv-loop μ-loop
-index-1-cancel c = search needs
-
-index-2-cancel : tie.Need-index-2-cancel Inv-loop μ-loop
-index-2-cancel c = search needs
-
 mul-if1 : tie.Need-mul-if1 Inv-loop μ-loop
 mul-if1 c = omega (arith, small (c .before .before .before .before .before) 7 (lit< tt))
 
 shared-slice-read-if1 : tie.Need-shared-slice-read-if1 Inv-loop μ-loop
 shared-slice-read-if1 c = small (c .before .before .before .before .before .before) 7 (lit< tt)
 
-mul-words-5 : tie.Need-mul-words-5 Inv-loop μ-loop
-mul-words-5 c = search needs
-
-add-words-2 : tie.Need-add-words-2 Inv-loop μ-loop
-add-words-2 c = search needs
-
-mul-words-6 : tie.Need-mul-words-6 Inv-loop μ-loop
-mul-words-6 c = search needs
-
 slice-write-words-3 : tie.Need-slice-write-words-3 Inv-loop μ-loop
 slice-write-words-3 c = omega (arith, inside (c .before .before .before .before .before .before .before) 7 (lit< tt), c .before .before .before .before .loop .inv .2 .size, wide (c .before .before .before .before .before .before .before))
-
-mul-charge : tie.Need-mul-charge Inv-loop μ-loop
-mul-charge c = search needs
-
-index-1-charge : tie.Need-index-1-charge Inv-loop μ-loop
-index-1-charge c = search needs
-
-index-2-charge : tie.Need-index-2-charge Inv-loop μ-loop
-index-2-charge c = search needs
 
 mul-signed : tie.Need-mul-signed Inv-loop μ-loop
 mul-signed c = omega (arith, small (c .before .before .before .before .before .before .before .before) 8 (lit< tt))
@@ -142,38 +91,11 @@ mul-signed c = omega (arith, small (c .before .before .before .before .before .b
 shared-slice-read-signed : tie.Need-shared-slice-read-signed Inv-loop μ-loop
 shared-slice-read-signed c = small (c .before .before .before .before .before .before .before .before .before) 8 (lit< tt)
 
-signed-requires : tie.Need-signed-requires Inv-loop μ-loop
-signed-requires c κs = search needs
-
-mul-t76 : tie.Need-mul-t76 Inv-loop μ-loop
-mul-t76 c = search needs
-
-slice-set-from-charges : tie.Need-slice-set-from-charges Inv-loop μ-loop
-slice-set-from-charges c = search needs
-
-mul-usage : tie.Need-mul-usage Inv-loop μ-loop
-mul-usage c = search needs
-
-index-1-usage : tie.Need-index-1-usage Inv-loop μ-loop
-index-1-usage c = search needs
-
-index-2-usage : tie.Need-index-2-usage Inv-loop μ-loop
-index-2-usage c = search needs
-
 mul-signed-2 : tie.Need-mul-signed-2 Inv-loop μ-loop
 mul-signed-2 c = omega (arith, small (c .before .before .before .before .before .before .before .before .before .before .before) 9 (lit< tt))
 
 shared-slice-read-signed-2 : tie.Need-shared-slice-read-signed-2 Inv-loop μ-loop
 shared-slice-read-signed-2 c = small (c .before .before .before .before .before .before .before .before .before .before .before .before) 9 (lit< tt)
-
-signed-requires-2 : tie.Need-signed-requires-2 Inv-loop μ-loop
-signed-requires-2 c κs = search needs
-
-mul-t91 : tie.Need-mul-t91 Inv-loop μ-loop
-mul-t91 c = search needs
-
-slice-set-from-usages : tie.Need-slice-set-from-usages Inv-loop μ-loop
-slice-set-from-usages c = search needs
 
 -- the words, once all is stored
 stored : (c : tie.Joined1 Inv-loop μ-loop) → let a = c .before .before .before .before .before .before .before .args in RowStored (length (now (a .charges))) (now (a .words)) (a .i) (columnNumbers (a .record-type) (now (a .numbers))) 8 (set (c .before .before .before .before .loop .words) (7 * length (now (a .charges)) + a .i) (c .if1 .words))
@@ -194,12 +116,6 @@ stored c =
 same-length : tie.Need-same-length Inv-loop μ-loop
 same-length c = stored (c .before .before .before .before .before .before) .size
 
-same-length-2 : tie.Need-same-length-2 Inv-loop μ-loop
-same-length-2 c = search needs
-
-same-length-3 : tie.Need-same-length-3 Inv-loop μ-loop
-same-length-3 c = search needs
-
 returns : tie.Need-returns Inv-loop μ-loop
 returns c =
     let start = c .before .before .before .before .before .before .before .before .before .before .before .before .before in
@@ -217,48 +133,48 @@ store-line-spec =
     (tie.spec
     Inv-loop
     μ-loop
-    mul-words
-    slice-write-words
+    (λ c. search needs)
+    (λ c. search needs)
     loop-holds
-    mul-k
-    mul-k-2
-    index-1-k
-    index-2-k
+    (λ c. search needs)
+    (λ c. search needs)
+    (λ c. search needs)
+    (λ c. search needs)
     mul-words-2
     shared-slice-read-words
     mul-words-3
     add-words
     mul-words-4
     slice-write-words-2
-    add-c
-    loop-less
+    (λ c. search needs)
+    (λ c. search needs)
     loop-again
-    mul-cancel
-    index-1-cancel
-    index-2-cancel
+    (λ c. search needs)
+    (λ c. search needs)
+    (λ c. search needs)
     mul-if1
     shared-slice-read-if1
-    mul-words-5
-    add-words-2
-    mul-words-6
+    (λ c. search needs)
+    (λ c. search needs)
+    (λ c. search needs)
     slice-write-words-3
-    mul-charge
-    index-1-charge
-    index-2-charge
+    (λ c. search needs)
+    (λ c. search needs)
+    (λ c. search needs)
     mul-signed
     shared-slice-read-signed
-    signed-requires
-    mul-t76
-    slice-set-from-charges
-    mul-usage
-    index-1-usage
-    index-2-usage
+    (λ c κs. search needs)
+    (λ c. search needs)
+    (λ c. search needs)
+    (λ c. search needs)
+    (λ c. search needs)
+    (λ c. search needs)
     mul-signed-2
     shared-slice-read-signed-2
-    signed-requires-2
-    mul-t91
-    slice-set-from-usages
+    (λ c κs. search needs)
+    (λ c. search needs)
+    (λ c. search needs)
     same-length
-    same-length-2
-    same-length-3
+    (λ c. search needs)
+    (λ c. search needs)
     returns)

@@ -7,9 +7,6 @@ use borrow.Author.Needs.{needs}
 use Rattle.codes_and_rows.proofs.unit_field.Statement.{statement}
 use Rattle.codes_and_rows.proofs.unit_field.Tie as tie
 
-returns : tie.Need-returns
-returns c = search needs
-
 returns-2 : tie.Need-returns-2
 returns-2 c = sym (rw (unit-field, ne-eqb _ 3 (c .before .before .match .rest .1), le-ltb _ 1 (c .before .if1 .left), lt-ltb _ 3 (c .if2 .taken)))
 
@@ -20,4 +17,4 @@ returns-4 : tie.Need-returns-4
 returns-4 c = sym (rw (unit-field, ne-eqb _ 3 (c .before .before .match .rest .1), le-ltb _ 1 (c .before .if1 .left), le-ltb _ 3 (c .if2 .left)))
 
 pub unit-field-spec : {M : Type 1} → statement M
-unit-field-spec = tie.close (tie.spec returns returns-2 returns-3 returns-4)
+unit-field-spec = tie.close (tie.spec (λ c. search needs) returns-2 returns-3 returns-4)

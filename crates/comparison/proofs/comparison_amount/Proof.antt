@@ -9,15 +9,6 @@ use borrow.Author.Needs.{needs}
 use Rattle.comparison.proofs.comparison_amount.Statement.{statement}
 use Rattle.comparison.proofs.comparison_amount.Tie as tie
 
-amount-of-requires : tie.Need-amount-of-requires
-amount-of-requires c κs = search needs
-
-enum-known-x : tie.Need-enum-known-x
-enum-known-x c = search needs
-
-enum-told : tie.Need-enum-told
-enum-told c = search needs
-
 returns : tie.Need-returns
 returns c =
     let read = sym (c .before .before .before .amount-of .ensures) ∙ c .before .x .given .1 in
@@ -29,4 +20,4 @@ returns-2 c = let missed = sym (c .before .before .amount-of .ensures) ∙ c .en
 
 pub comparison-amount-spec : {M : Type 1} → statement M
 comparison-amount-spec =
-    tie.close (tie.spec amount-of-requires enum-known-x enum-told returns returns-2)
+    tie.close (tie.spec (λ c κs. search needs) (λ c. search needs) (λ c. search needs) returns returns-2)

@@ -5,15 +5,6 @@ use borrow.Author.Needs.{needs}
 use Rattle.comparison.proofs.comparison_date_time.Statement.{statement}
 use Rattle.comparison.proofs.comparison_date_time.Tie as tie
 
-date-time-of-requires : tie.Need-date-time-of-requires
-date-time-of-requires c κs = search needs
-
-enum-known-d : tie.Need-enum-known-d
-enum-known-d c = search needs
-
-enum-told : tie.Need-enum-told
-enum-told c = search needs
-
 returns : tie.Need-returns
 returns c = let read = sym (c .before .before .before .date-time-of .ensures) ∙ c .before .d .given .1 in (rw read, (rw read, rw read))
 
@@ -22,4 +13,4 @@ returns-2 c = let missed = sym (c .before .before .date-time-of .ensures) ∙ c 
 
 pub comparison-date-time-spec : {M : Type 1} → statement M
 comparison-date-time-spec =
-    tie.close (tie.spec date-time-of-requires enum-known-d enum-told returns returns-2)
+    tie.close (tie.spec (λ c κs. search needs) (λ c. search needs) (λ c. search needs) returns returns-2)

@@ -5,15 +5,6 @@ use borrow.Author.Needs.{needs}
 use Rattle.comparison.proofs.comparison_digits.Statement.{statement}
 use Rattle.comparison.proofs.comparison_digits.Tie as tie
 
-digits-for-requires : tie.Need-digits-for-requires
-digits-for-requires c κs = search needs
-
-enum-known-v : tie.Need-enum-known-v
-enum-known-v c = search needs
-
-enum-told : tie.Need-enum-told
-enum-told c = search needs
-
 returns : tie.Need-returns
 returns c = let read = sym (c .before .before .before .digits-for .ensures) ∙ c .before .v .given .1 in (rw read, rw read)
 
@@ -22,4 +13,4 @@ returns-2 c = let missed = sym (c .before .before .digits-for .ensures) ∙ c .e
 
 pub comparison-digits-spec : {M : Type 1} → statement M
 comparison-digits-spec =
-    tie.close (tie.spec digits-for-requires enum-known-v enum-told returns returns-2)
+    tie.close (tie.spec (λ c κs. search needs) (λ c. search needs) (λ c. search needs) returns returns-2)

@@ -6,14 +6,8 @@ use borrow.Author.Needs.{needs}
 use Rattle.comparison.proofs.comparison_shares_day.Statement.{statement}
 use Rattle.comparison.proofs.comparison_shares_day.Tie as tie
 
-shares-day-requires : tie.Need-shares-day-requires
-shares-day-requires c κs = search needs
-
-one-if-requires : tie.Need-one-if-requires
-one-if-requires c κs = search needs
-
 returns : tie.Need-returns
 returns c = c .one-if .ensures ∙ ap flag (c .before .shares-day .ensures)
 
 pub comparison-shares-day-spec : {M : Type 1} → statement M
-comparison-shares-day-spec = tie.close (tie.spec shares-day-requires one-if-requires returns)
+comparison-shares-day-spec = tie.close (tie.spec (λ c κs. search needs) (λ c κs. search needs) returns)

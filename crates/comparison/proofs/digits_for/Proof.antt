@@ -5,17 +5,11 @@ use borrow.Author.Needs.{needs}
 use Rattle.comparison.proofs.digits_for.Statement.{statement}
 use Rattle.comparison.proofs.digits_for.Tie as tie
 
-digits-requires : tie.Need-digits-requires
-digits-requires c κs = search needs
-
 returns : tie.Need-returns
 returns c = simp (eq-eqb _ _ (c .before .if1 .taken), c .digits .ensures)
-
-fixed-digits-requires : tie.Need-fixed-digits-requires
-fixed-digits-requires c κs = search needs
 
 returns-2 : tie.Need-returns-2
 returns-2 c = simp (ne-eqb _ _ (c .before .if1 .left), c .fixed-digits .ensures)
 
 pub digits-for-spec : {M : Type 1} → statement M
-digits-for-spec = tie.close (tie.spec digits-requires returns fixed-digits-requires returns-2)
+digits-for-spec = tie.close (tie.spec (λ c κs. search needs) returns (λ c κs. search needs) returns-2)

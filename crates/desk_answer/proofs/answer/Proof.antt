@@ -10,15 +10,6 @@ use Rattle.desk_answer.proofs.answer.Tie as tie
 returns : tie.Need-returns
 returns c = desk-long (now (c .before .before .args .input)) (c .if1 .taken)
 
-slice-aggregate-book : tie.Need-slice-aggregate-book
-slice-aggregate-book c = search needs
-
-slice-aggregate-book-2 : tie.Need-slice-aggregate-book-2
-slice-aggregate-book-2 c = search needs
-
-slice-aggregate-book-3 : tie.Need-slice-aggregate-book-3
-slice-aggregate-book-3 c = search needs
-
 book-requires : tie.Need-book-requires
 book-requires c κs = desk-room
 
@@ -30,8 +21,8 @@ answer-spec =
     tie.close
     (tie.spec
     returns
-    slice-aggregate-book
-    slice-aggregate-book-2
-    slice-aggregate-book-3
+    (λ c. search needs)
+    (λ c. search needs)
+    (λ c. search needs)
     book-requires
     returns-2)

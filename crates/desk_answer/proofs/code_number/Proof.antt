@@ -5,15 +5,6 @@ use Rattle.desk_answer.specs.Line.{codeNumber}
 use Rattle.desk_answer.proofs.code_number.Statement.{statement}
 use Rattle.desk_answer.proofs.code_number.Tie as tie
 
-code-of-requires : tie.Need-code-of-requires
-code-of-requires c κs = search needs
-
-enum-known-code : tie.Need-enum-known-code
-enum-known-code c = search needs
-
-enum-told : tie.Need-enum-told
-enum-told c = search needs
-
 returns : tie.Need-returns
 unfolding codeNumber
 returns c = simp (← c .before .before .before .code-of .ensures, c .before .code .given .1)
@@ -24,4 +15,4 @@ returns-2 c = simp (← c .before .before .code-of .ensures, c .enum-told .given
 
 pub code-number-spec : {M : Type 1} → statement M
 code-number-spec =
-    tie.close (tie.spec code-of-requires enum-known-code enum-told returns returns-2)
+    tie.close (tie.spec (λ c κs. search needs) (λ c. search needs) (λ c. search needs) returns returns-2)

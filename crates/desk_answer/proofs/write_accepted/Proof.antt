@@ -14,12 +14,6 @@ use Rattle.desk_answer.proofs.Lines.{number-piece, accepted-length}
 use Rattle.desk_answer.proofs.write_accepted.Statement.{statement}
 use Rattle.desk_answer.proofs.write_accepted.Tie as tie
 
-slice-aggregate-write-bytes : tie.Need-slice-aggregate-write-bytes
-slice-aggregate-write-bytes c = search needs
-
-write-bytes-requires : tie.Need-write-bytes-requires
-write-bytes-requires c κs = search needs
-
 write-number-requires : tie.Need-write-number-requires
 write-number-requires c κs = omega (arith, plain-short (c .before .before .before .before .before .before .before .args .added))
 
@@ -27,9 +21,6 @@ write-number-requires-2 : tie.Need-write-number-requires-2
 write-number-requires-2 c κs =
     let a = c .before .before .before .before .before .before .before .before .before .before .before .args in
     omega (arith, plain-short (a .added), plain-short (a .held), c .before .before .before .write-number .ensures .1)
-
-same-length : tie.Need-same-length
-same-length c = search needs
 
 returns : tie.Need-returns
 unfolding acceptedLine parted
@@ -50,9 +41,9 @@ pub write-accepted-spec : {M : Type 1} → statement M
 write-accepted-spec =
     tie.close
     (tie.spec
-    slice-aggregate-write-bytes
-    write-bytes-requires
+    (λ c. search needs)
+    (λ c κs. search needs)
     write-number-requires
     write-number-requires-2
-    same-length
+    (λ c. search needs)
     returns)

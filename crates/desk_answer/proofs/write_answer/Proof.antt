@@ -12,17 +12,8 @@ use native.Mathlib.Omega.{arith}
 use Rattle.desk_answer.proofs.write_answer.Statement.{statement}
 use Rattle.desk_answer.proofs.write_answer.Tie as tie
 
-answer-requires : tie.Need-answer-requires
-answer-requires c κs = search needs
-
-write-line-requires : tie.Need-write-line-requires
-write-line-requires c κs = search needs
-
-same-length : tie.Need-same-length
-same-length c = search needs
-
 returns : tie.Need-returns
 returns c = let w = c .before .before .write-line in let same = c .before .before .before .before .answer .ensures in (w .ensures .0 ∙ ap (λ (r : Result). writtenAt (now (c .before .before .before .before .before .before .before .args .out)) 0 (lineOf r)) same, (w .ensures .1 ∙ ap (λ (r : Result). length (lineOf r)) same, omega (arith, w .ensures .1, line-short (resultOf (c .before .before .before .before .answer .result)))))
 
 pub write-answer-spec : {M : Type 1} → statement M
-write-answer-spec = tie.close (tie.spec answer-requires write-line-requires same-length returns)
+write-answer-spec = tie.close (tie.spec (λ c κs. search needs) (λ c κs. search needs) (λ c. search needs) returns)

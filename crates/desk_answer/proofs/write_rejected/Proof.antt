@@ -14,12 +14,6 @@ use Rattle.desk_answer.proofs.Lines.{number-piece, rejected-length}
 use Rattle.desk_answer.proofs.write_rejected.Statement.{statement}
 use Rattle.desk_answer.proofs.write_rejected.Tie as tie
 
-slice-aggregate-write-bytes : tie.Need-slice-aggregate-write-bytes
-slice-aggregate-write-bytes c = search needs
-
-write-bytes-requires : tie.Need-write-bytes-requires
-write-bytes-requires c κs = search needs
-
 write-number-requires : tie.Need-write-number-requires
 write-number-requires c κs = omega (arith, plain-short (c .before .before .before .before .before .before .before .args .number))
 
@@ -32,9 +26,6 @@ write-number-requires-3 : tie.Need-write-number-requires-3
 write-number-requires-3 c κs =
     let a = c .before .before .before .before .before .before .before .before .before .before .before .before .before .before .before .args in
     omega (arith, plain-short (a .number), plain-short (a .code), plain-short (a .line), c .before .before .before .write-number2 .ensures .1, c .before .before .before .before .before .before .before .write-number .ensures .1)
-
-same-length : tie.Need-same-length
-same-length c = search needs
 
 returns : tie.Need-returns
 unfolding rejectedLine parted
@@ -58,10 +49,10 @@ pub write-rejected-spec : {M : Type 1} → statement M
 write-rejected-spec =
     tie.close
     (tie.spec
-    slice-aggregate-write-bytes
-    write-bytes-requires
+    (λ c. search needs)
+    (λ c κs. search needs)
     write-number-requires
     write-number-requires-2
     write-number-requires-3
-    same-length
+    (λ c. search needs)
     returns)

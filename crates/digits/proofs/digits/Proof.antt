@@ -28,9 +28,6 @@ returns-2 c = sym (digits-too-many (now (c .before .before .before .args .s)) (c
 loop-holds : tie.Need-loop-holds Inv-loop μ-loop
 loop-holds c = (omega arith, omega arith, omega arith, omega arith, refl, refl)
 
-shared-slice-read-b : tie.Need-shared-slice-read-b Inv-loop μ-loop
-shared-slice-read-b c = search needs
-
 returns-3 : tie.Need-returns-3 Inv-loop μ-loop
 returns-3 c =
     let p = c .before .before .before in
@@ -46,19 +43,10 @@ mul-v c =
     let p = c .before .before .before .before in
     omega (arith, ten-room (p .loop .i) (p .loop .inv .3) (omega arith))
 
-wide-requires : tie.Need-wide-requires Inv-loop μ-loop
-wide-requires c κs = search needs
-
 add-v : tie.Need-add-v Inv-loop μ-loop
 add-v c =
     let p = c .before .before .before .before .before in
     omega (arith, ten-room (p .loop .i) (p .loop .inv .3) (omega arith))
-
-add-i : tie.Need-add-i Inv-loop μ-loop
-add-i c = search needs
-
-loop-less : tie.Need-loop-less Inv-loop μ-loop
-loop-less c = search needs
 
 loop-again : tie.Need-loop-again Inv-loop μ-loop
 loop-again c =
@@ -86,13 +74,13 @@ digits-spec =
     returns
     returns-2
     loop-holds
-    shared-slice-read-b
+    (λ c. search needs)
     returns-3
     returns-4
     mul-v
-    wide-requires
+    (λ c κs. search needs)
     add-v
-    add-i
-    loop-less
+    (λ c. search needs)
+    (λ c. search needs)
     loop-again
     returns-5)

@@ -10,12 +10,9 @@ returns : tie.Need-returns
 unfolding fixedDigitsOf
 returns c = simp (ne-eqb _ _ (c .if1 .taken))
 
-digits-requires : tie.Need-digits-requires
-digits-requires c κs = search needs
-
 returns-2 : tie.Need-returns-2
 unfolding fixedDigitsOf
 returns-2 c = simp (eq-eqb _ _ (c .before .if1 .left), ← c .digits .ensures)
 
 pub fixed-digits-spec : {M : Type 1} → statement M
-fixed-digits-spec = tie.close (tie.spec returns digits-requires returns-2)
+fixed-digits-spec = tie.close (tie.spec returns (λ c κs. search needs) returns-2)

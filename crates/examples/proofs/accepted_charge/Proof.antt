@@ -12,37 +12,16 @@ Inv-loop words amounts used sum₀ place₀ sum place = Unit {0}
 abbrev μ-loop : tie.MeasureT-loop
 μ-loop words amounts used sum₀ place₀ sum place = used - place
 
-loop-holds : tie.Need-loop-holds Inv-loop μ-loop
-loop-holds c = search needs
-
-entry-at-requires : tie.Need-entry-at-requires Inv-loop μ-loop
-entry-at-requires c κs = search needs
-
-plus-requires : tie.Need-plus-requires Inv-loop μ-loop
-plus-requires c κs = search needs
-
-add-place : tie.Need-add-place Inv-loop μ-loop
-add-place c = search needs
-
-loop-less : tie.Need-loop-less Inv-loop μ-loop
-loop-less c = search needs
-
-loop-again : tie.Need-loop-again Inv-loop μ-loop
-loop-again c = search needs
-
-returns : tie.Need-returns Inv-loop μ-loop
-returns c = search needs
-
 pub accepted-charge-spec : {M : Type 1} → statement M
 accepted-charge-spec =
     tie.close
     (tie.spec
     Inv-loop
     μ-loop
-    loop-holds
-    entry-at-requires
-    plus-requires
-    add-place
-    loop-less
-    loop-again
-    returns)
+    (λ c. search needs)
+    (λ c κs. search needs)
+    (λ c κs. search needs)
+    (λ c. search needs)
+    (λ c. search needs)
+    (λ c. search needs)
+    (λ c. search needs))

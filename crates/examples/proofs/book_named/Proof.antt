@@ -15,32 +15,8 @@ start c = c .before .before .before .before .before .before .before .before .bef
 within : (c : tie.After-added) → start c .args .used + c .added .result ≤ start c .args .places
 within c = omega (arith, c .added .ensures, used-within _ _ _ _ _ _ _ _ _ _ (start c .pre .1) (c .before .before .before .before .before .book .ensures))
 
-large-buffer-requires : tie.Need-large-buffer-requires
-large-buffer-requires c κs = search needs
-
-slice-aggregate-read-named : tie.Need-slice-aggregate-read-named
-slice-aggregate-read-named c = search needs
-
-read-named-requires : tie.Need-read-named-requires
-read-named-requires c κs = search needs
-
-slice-aggregate-book : tie.Need-slice-aggregate-book
-slice-aggregate-book c = search needs
-
-array-share-prefix-bytes : tie.Need-array-share-prefix-bytes
-array-share-prefix-bytes c = search needs
-
-slice-aggregate-book-2 : tie.Need-slice-aggregate-book-2
-slice-aggregate-book-2 c = search needs
-
 book-requires : tie.Need-book-requires
 book-requires c κs = let s = c .before .before .before .before .before .before .before .before .before .before in room-read (s .args .places) (s .args .places) (s .pre .0)
-
-print-answer-requires : tie.Need-print-answer-requires
-print-answer-requires c κs = search needs
-
-added-requires : tie.Need-added-requires
-added-requires c κs = search needs
 
 add-result : tie.Need-add-result
 add-result c = omega (arith, within c)
@@ -58,15 +34,15 @@ pub book-named-spec : {M : Type 1} → statement M
 book-named-spec =
     tie.close
     (tie.spec
-    large-buffer-requires
-    slice-aggregate-read-named
-    read-named-requires
-    slice-aggregate-book
-    array-share-prefix-bytes
-    slice-aggregate-book-2
+    (λ c κs. search needs)
+    (λ c. search needs)
+    (λ c κs. search needs)
+    (λ c. search needs)
+    (λ c. search needs)
+    (λ c. search needs)
     book-requires
-    print-answer-requires
-    added-requires
+    (λ c κs. search needs)
+    (λ c κs. search needs)
     add-result
     same-length
     same-length-2

@@ -10,15 +10,9 @@ returns : tie.Need-returns
 unfolding fitsType
 returns c = simp (eq-eqb _ _ (c .if1 .taken))
 
-read-date-time-requires : tie.Need-read-date-time-requires
-read-date-time-requires c κs = search needs
-
-is-moment-requires : tie.Need-is-moment-requires
-is-moment-requires c κs = search needs
-
 returns-2 : tie.Need-returns-2
 unfolding fitsType
 returns-2 c = simp (ne-eqb _ _ (c .before .before .if1 .left), ← c .before .read-date-time .ensures, ← c .is-moment .ensures)
 
 pub is-date-time-spec : {M : Type 1} → statement M
-is-date-time-spec = tie.close (tie.spec returns read-date-time-requires is-moment-requires returns-2)
+is-date-time-spec = tie.close (tie.spec returns (λ c κs. search needs) (λ c κs. search needs) returns-2)

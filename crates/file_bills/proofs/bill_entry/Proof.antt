@@ -18,27 +18,6 @@ use Rattle.file_bills.proofs.Lines.{bill-entry}
 use Rattle.file_bills.proofs.bill_entry.Statement.{statement}
 use Rattle.file_bills.proofs.bill_entry.Tie as tie
 
-number-at-requires : tie.Need-number-at-requires
-number-at-requires c κs = search needs
-
-number-at-requires-2 : tie.Need-number-at-requires-2
-number-at-requires-2 c κs = search needs
-
-number-at-requires-3 : tie.Need-number-at-requires-3
-number-at-requires-3 c κs = search needs
-
-number-at-requires-4 : tie.Need-number-at-requires-4
-number-at-requires-4 c κs = search needs
-
-number-at-requires-5 : tie.Need-number-at-requires-5
-number-at-requires-5 c κs = search needs
-
-number-at-requires-6 : tie.Need-number-at-requires-6
-number-at-requires-6 c κs = search needs
-
-number-at-requires-7 : tie.Need-number-at-requires-7
-number-at-requires-7 c κs = search needs
-
 mul-entry-from : tie.Need-mul-entry-from
 mul-entry-from c =
     let s = c .before .before .before .before .before .before .before .before .before .before .before in
@@ -58,9 +37,6 @@ shared-slice-copy-out-entry-from-2 : tie.Need-shared-slice-copy-out-entry-from-2
 shared-slice-copy-out-entry-from-2 c =
     let s = c .before .before .before .before .before .before .before .before .before .before .before .before in
     omega (arith, s .pre .0 .1, s .pre .0 .0 .room .few, s .pre .0 .0 .room .usages-length)
-
-entry-from-requires : tie.Need-entry-from-requires
-entry-from-requires c κs = search needs
 
 returns : tie.Need-returns
 returns c =
@@ -91,16 +67,16 @@ pub bill-entry-spec : {M : Type 1} → statement M
 bill-entry-spec =
     tie.close
     (tie.spec
-    number-at-requires
-    number-at-requires-2
-    number-at-requires-3
-    number-at-requires-4
-    number-at-requires-5
-    number-at-requires-6
-    number-at-requires-7
+    (λ c κs. search needs)
+    (λ c κs. search needs)
+    (λ c κs. search needs)
+    (λ c κs. search needs)
+    (λ c κs. search needs)
+    (λ c κs. search needs)
+    (λ c κs. search needs)
     mul-entry-from
     shared-slice-copy-out-entry-from
     mul-entry-from-2
     shared-slice-copy-out-entry-from-2
-    entry-from-requires
+    (λ c κs. search needs)
     returns)

@@ -11,39 +11,6 @@ use Rattle.file_bills.specs.InsideReading.{entryFrom}
 use Rattle.file_bills.proofs.entry_from.Statement.{statement}
 use Rattle.file_bills.proofs.entry_from.Tie as tie
 
-either-requires : tie.Need-either-requires
-either-requires c κs = search needs
-
-less-one-requires : tie.Need-less-one-requires
-less-one-requires c κs = search needs
-
-less-one-requires-2 : tie.Need-less-one-requires-2
-less-one-requires-2 c κs = search needs
-
-less-one-requires-3 : tie.Need-less-one-requires-3
-less-one-requires-3 c κs = search needs
-
-either-requires-2 : tie.Need-either-requires-2
-either-requires-2 c κs = search needs
-
-less-one-requires-4 : tie.Need-less-one-requires-4
-less-one-requires-4 c κs = search needs
-
-either-requires-3 : tie.Need-either-requires-3
-either-requires-3 c κs = search needs
-
-counted-requires : tie.Need-counted-requires
-counted-requires c κs = search needs
-
-either-requires-4 : tie.Need-either-requires-4
-either-requires-4 c κs = search needs
-
-less-one-requires-5 : tie.Need-less-one-requires-5
-less-one-requires-5 c κs = search needs
-
-either-requires-5 : tie.Need-either-requires-5
-either-requires-5 c κs = search needs
-
 returns : tie.Need-returns
 unfolding entryFrom
 returns c =
@@ -61,15 +28,15 @@ pub entry-from-spec : {M : Type 1} → statement M
 entry-from-spec =
     tie.close
     (tie.spec
-    either-requires
-    less-one-requires
-    less-one-requires-2
-    less-one-requires-3
-    either-requires-2
-    less-one-requires-4
-    either-requires-3
-    counted-requires
-    either-requires-4
-    less-one-requires-5
-    either-requires-5
+    (λ c κs. search needs)
+    (λ c κs. search needs)
+    (λ c κs. search needs)
+    (λ c κs. search needs)
+    (λ c κs. search needs)
+    (λ c κs. search needs)
+    (λ c κs. search needs)
+    (λ c κs. search needs)
+    (λ c κs. search needs)
+    (λ c κs. search needs)
+    (λ c κs. search needs)
     returns)

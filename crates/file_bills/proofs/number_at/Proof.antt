@@ -17,12 +17,6 @@ long : (words : List ℕ) (room column n : ℕ) → length words ≡ 8 * room �
 long words room column n eight few which =
     length-take-le n (drop (column * room) words) (omega (arith, length-drop (column * room) words, column-inside room column which))
 
-column-requires : tie.Need-column-requires
-column-requires c κs = search needs
-
-mul-result : tie.Need-mul-result
-mul-result c = search needs
-
 shared-slice-read-result : tie.Need-shared-slice-read-result
 shared-slice-read-result c =
     let s = c .before .before .before in
@@ -32,4 +26,4 @@ returns : tie.Need-returns
 returns c = ap (λ (l : List ℕ). getD l (c .before .before .before .args .i) 0) (c .before .column .ensures)
 
 pub number-at-spec : {M : Type 1} → statement M
-number-at-spec = tie.close (tie.spec column-requires mul-result shared-slice-read-result returns)
+number-at-spec = tie.close (tie.spec (λ c κs. search needs) (λ c. search needs) shared-slice-read-result returns)

@@ -20,12 +20,6 @@ use Rattle.file_bills.proofs.Lines.{bill-type, reference-is}
 use Rattle.file_bills.proofs.read_bill.Statement.{statement}
 use Rattle.file_bills.proofs.read_bill.Tie as tie
 
-number-at-requires : tie.Need-number-at-requires
-number-at-requires c κs = search needs
-
-is-bill-requires : tie.Need-is-bill-requires
-is-bill-requires c κs = search needs
-
 -- whether the line is a TH or OC
 is-one : (c : tie.After-is-bill) → let s = c .before .before .before .before .before .before .before .before .before in c .is-bill .result ≡ isBill (lineAt (linesOf (now (s .args .file))) (s .args .i))
 is-one c =
@@ -88,18 +82,6 @@ add-result c =
     let s = c .before .before .before .before .before .before .before .before .before .before .before .before .before .before .before .before .before .before in
     omega (arith, s .pre .0 .1, s .pre .1 .1 .1 .few, s .pre .0 .0 .few)
 
-same-length : tie.Need-same-length
-same-length c = search needs
-
-same-length-2 : tie.Need-same-length-2
-same-length-2 c = search needs
-
-same-length-3 : tie.Need-same-length-3
-same-length-3 c = search needs
-
-same-length-4 : tie.Need-same-length-4
-same-length-4 c = search needs
-
 returns-2 : tie.Need-returns-2
 returns-2 c =
     let s = c .before .before .before .before .before .before .before .before .before .before .before .before .before .before .before .before .before .before in
@@ -122,8 +104,8 @@ pub read-bill-spec : {M : Type 1} → statement M
 read-bill-spec =
     tie.close
     (tie.spec
-    number-at-requires
-    is-bill-requires
+    (λ c κs. search needs)
+    (λ c κs. search needs)
     returns
     bill-entry-requires
     set-entry-requires
@@ -134,8 +116,8 @@ read-bill-spec =
     mul-at
     slice-write-at
     add-result
-    same-length
-    same-length-2
-    same-length-3
-    same-length-4
+    (λ c. search needs)
+    (λ c. search needs)
+    (λ c. search needs)
+    (λ c. search needs)
     returns-2)

@@ -31,29 +31,11 @@ read-bill-requires c κs =
     let r = s .pre .1 .2 in
     ((s .pre .0, c .before .before .before .before .loop-test .taken), ((s .pre .1 .0, s .pre .1 .1), (record { entry-room = room-same (p .inv .1) (p .inv .2) (r .entry-room); references-room = omega (arith, r .references-room, p .inv .3); at-room = omega (arith, r .at-room, p .inv .4) }, p .inv .5)))
 
-add-i : tie.Need-add-i Inv-loop μ-loop
-add-i c = search needs
-
-loop-less : tie.Need-loop-less Inv-loop μ-loop
-loop-less c = search needs
-
 loop-again : tie.Need-loop-again Inv-loop μ-loop
 loop-again c =
     let p = c .before .before .before .before .before .before .before .before .before .before .before .before .before .loop in
     let w = c .before .before .before .before .before .before .before .read-bill in
     (omega arith, omega (arith, w .kept .1 .1 .1 .1 .1 .1 .1 .1 .1 .1 .0, p .inv .1), omega (arith, w .kept .1 .1 .1 .1 .1 .1 .1 .1 .1 .1 .1 .0, p .inv .2), omega (arith, w .kept .1 .1 .1 .1 .1 .1 .1 .1 .1 .1 .1 .1 .0, p .inv .3), omega (arith, w .kept .1 .1 .1 .1 .1 .1 .1 .1 .1 .1 .1 .1 .1 .0, p .inv .4), w .ensures)
-
-same-length : tie.Need-same-length Inv-loop μ-loop
-same-length c = search needs
-
-same-length-2 : tie.Need-same-length-2 Inv-loop μ-loop
-same-length-2 c = search needs
-
-same-length-3 : tie.Need-same-length-3 Inv-loop μ-loop
-same-length-3 c = search needs
-
-same-length-4 : tie.Need-same-length-4 Inv-loop μ-loop
-same-length-4 c = search needs
 
 returns : tie.Need-returns Inv-loop μ-loop
 returns c =
@@ -70,11 +52,11 @@ read-bills-spec =
     μ-loop
     loop-holds
     read-bill-requires
-    add-i
-    loop-less
+    (λ c. search needs)
+    (λ c. search needs)
     loop-again
-    same-length
-    same-length-2
-    same-length-3
-    same-length-4
+    (λ c. search needs)
+    (λ c. search needs)
+    (λ c. search needs)
+    (λ c. search needs)
     returns)

@@ -26,12 +26,6 @@ use Rattle.bill_files.specs.Accepted.{numberOrZero, billFile}
 use Rattle.file_bills.proofs.read_header.Statement.{statement}
 use Rattle.file_bills.proofs.read_header.Tie as tie
 
-shared-slice-read-a : tie.Need-shared-slice-read-a
-shared-slice-read-a c = search needs
-
-shared-slice-read-e : tie.Need-shared-slice-read-e
-shared-slice-read-e c = search needs
-
 first : (s : tie.Start) → At (now (s .args .file)) (getD (now (s .args .starts)) 0 0) (getD (now (s .args .ends)) 0 0) (getD (linesOf (now (s .args .file))) 0 [])
 first s = placed-at (s .pre .placed) 0 (omega (arith, s .pre .some))
 
@@ -43,18 +37,6 @@ number-in-requires-2 c κs = (first (c .before .before .before .before .before .
 
 is-electric-requires : tie.Need-is-electric-requires
 is-electric-requires c κs = (first (c .before .before .before .before .before .before .before .before) .low, first (c .before .before .before .before .before .before .before .before) .high)
-
-either-requires : tie.Need-either-requires
-either-requires c κs = search needs
-
-sub-last : tie.Need-sub-last
-sub-last c = search needs
-
-mul-charge : tie.Need-mul-charge
-mul-charge c = search needs
-
-shared-slice-copy-out-charge : tie.Need-shared-slice-copy-out-charge
-shared-slice-copy-out-charge c = search needs
 
 returns : tie.Need-returns
 unfolding billFile
@@ -75,13 +57,13 @@ pub read-header-spec : {M : Type 1} → statement M
 read-header-spec =
     tie.close
     (tie.spec
-    shared-slice-read-a
-    shared-slice-read-e
+    (λ c. search needs)
+    (λ c. search needs)
     number-in-requires
     number-in-requires-2
     is-electric-requires
-    either-requires
-    sub-last
-    mul-charge
-    shared-slice-copy-out-charge
+    (λ c κs. search needs)
+    (λ c. search needs)
+    (λ c. search needs)
+    (λ c. search needs)
     returns)

@@ -17,26 +17,14 @@ Inv-loop types table i₀ i = (i ≤ length types) × Searched (misplaced types)
 abbrev μ-loop : tie.MeasureT-loop
 μ-loop types table i₀ i = length types - i
 
-follow-table-requires : tie.Need-follow-table-requires Inv-loop μ-loop
-follow-table-requires c κs = search needs
-
 loop-holds : tie.Need-loop-holds Inv-loop μ-loop
 loop-holds c = let t = now (c .before .before .args .types) in (omega arith, searched-none (misplaced t) (length t))
-
-is-misplaced-requires : tie.Need-is-misplaced-requires Inv-loop μ-loop
-is-misplaced-requires c κs = search needs
 
 returns : tie.Need-returns Inv-loop μ-loop
 unfolding firstMisplaced
 returns c =
     let t = now (c .before .before .before .before .before .before .before .args .types) in
     sym (searched-here (misplaced t) (length t) (c .before .before .before .before .loop .i) (c .before .before .before .loop-test .taken) (c .before .before .before .before .loop .inv .1) (sym (c .before .is-misplaced .ensures) ∙ c .if1 .taken))
-
-add-i : tie.Need-add-i Inv-loop μ-loop
-add-i c = search needs
-
-loop-less : tie.Need-loop-less Inv-loop μ-loop
-loop-less c = search needs
 
 loop-again : tie.Need-loop-again Inv-loop μ-loop
 loop-again c =
@@ -55,11 +43,11 @@ first-misplaced-spec =
     (tie.spec
     Inv-loop
     μ-loop
-    follow-table-requires
+    (λ c κs. search needs)
     loop-holds
-    is-misplaced-requires
+    (λ c κs. search needs)
     returns
-    add-i
-    loop-less
+    (λ c. search needs)
+    (λ c. search needs)
     loop-again
     returns-2)

@@ -24,26 +24,8 @@ Inv-loop s n i₀ i = (i ≤ length s) × ((k : ℕ) → k < i → holdsAt unpri
 abbrev μ-loop : tie.MeasureT-loop
 μ-loop s n i₀ i = length s - i
 
-has-unprintable-byte-requires : tie.Need-has-unprintable-byte-requires Inv-loop μ-loop
-has-unprintable-byte-requires c κs = search needs
-
-returns : tie.Need-returns Inv-loop μ-loop
-returns c = search needs
-
 loop-holds : tie.Need-loop-holds Inv-loop μ-loop
 loop-holds c = (omega arith, λ k h. absurd (omega arith))
-
-add-block-has-unprintable : tie.Need-add-block-has-unprintable Inv-loop μ-loop
-add-block-has-unprintable c = search needs
-
-sub-block-has-unprintable : tie.Need-sub-block-has-unprintable Inv-loop μ-loop
-sub-block-has-unprintable c = search needs
-
-part-block-has-unprintable-start : tie.Need-part-block-has-unprintable-start Inv-loop μ-loop
-part-block-has-unprintable-start c = search needs
-
-part-block-has-unprintable-end : tie.Need-part-block-has-unprintable-end Inv-loop μ-loop
-part-block-has-unprintable-end c = search needs
 
 block-has-unprintable-requires : tie.Need-block-has-unprintable-requires Inv-loop μ-loop
 block-has-unprintable-requires c κs =
@@ -56,12 +38,6 @@ returns-2 c =
     let i = c .before .before .before .before .loop .i in
     sym (block-some unprintable s (part s i (i + 32)) i 32 (λ k h. part-at s i (i + 32) k 0 (omega arith)) (length s) (omega arith) (sym (c .before .block-has-unprintable .ensures) ∙ c .if2 .taken))
 
-add-i : tie.Need-add-i Inv-loop μ-loop
-add-i c = search needs
-
-loop-less : tie.Need-loop-less Inv-loop μ-loop
-loop-less c = search needs
-
 loop-again : tie.Need-loop-again Inv-loop μ-loop
 loop-again c =
     let s = now (c .before .before .before .before .before .before .before .args .s) in
@@ -69,15 +45,6 @@ loop-again c =
       omega arith,
       block-passed unprintable s (part s i (i + 32)) i 32 (λ k h. part-at s i (i + 32) k 0 (omega arith)) i (le-refl i) (c .before .before .before .before .loop .inv .1) (sym (c .before .block-has-unprintable .ensures) ∙ c .if2 .left),
     )
-
-sub-block-has-unprintable-2 : tie.Need-sub-block-has-unprintable-2 Inv-loop μ-loop
-sub-block-has-unprintable-2 c = search needs
-
-part-block-has-unprintable-start-2 : tie.Need-part-block-has-unprintable-start-2 Inv-loop μ-loop
-part-block-has-unprintable-start-2 c = search needs
-
-part-block-has-unprintable-end-2 : tie.Need-part-block-has-unprintable-end-2 Inv-loop μ-loop
-part-block-has-unprintable-end-2 c = search needs
 
 block-has-unprintable-requires-2 : tie.Need-block-has-unprintable-requires-2 Inv-loop μ-loop
 block-has-unprintable-requires-2 c κs =
@@ -97,20 +64,20 @@ has-unprintable-spec =
     (tie.spec
     Inv-loop
     μ-loop
-    has-unprintable-byte-requires
-    returns
+    (λ c κs. search needs)
+    (λ c. search needs)
     loop-holds
-    add-block-has-unprintable
-    sub-block-has-unprintable
-    part-block-has-unprintable-start
-    part-block-has-unprintable-end
+    (λ c. search needs)
+    (λ c. search needs)
+    (λ c. search needs)
+    (λ c. search needs)
     block-has-unprintable-requires
     returns-2
-    add-i
-    loop-less
+    (λ c. search needs)
+    (λ c. search needs)
     loop-again
-    sub-block-has-unprintable-2
-    part-block-has-unprintable-start-2
-    part-block-has-unprintable-end-2
+    (λ c. search needs)
+    (λ c. search needs)
+    (λ c. search needs)
     block-has-unprintable-requires-2
     returns-3)

@@ -13,15 +13,6 @@ use borrow.Author.Needs.{needs}
 use Rattle.format.proofs.is_misplaced.Statement.{statement}
 use Rattle.format.proofs.is_misplaced.Tie as tie
 
-mul-present : tie.Need-mul-present
-mul-present c = search needs
-
-shared-slice-read-present : tie.Need-shared-slice-read-present
-shared-slice-read-present c = search needs
-
-add-if1 : tie.Need-add-if1
-add-if1 c = search needs
-
 returns : tie.Need-returns
 unfolding misplaced
 returns c = simp (eq-eqb _ _ (c .before .if1 .taken), ne-eqb _ _ (c .if2 .taken), or-true)
@@ -36,18 +27,6 @@ returns-2 : tie.Need-returns-2
 unfolding misplaced
 returns-2 c = rw (last (c .before), or-false, c .if3 .taken)
 
-sub-may-follow : tie.Need-sub-may-follow
-sub-may-follow c = search needs
-
-mul-may-follow : tie.Need-mul-may-follow
-mul-may-follow c = search needs
-
-shared-slice-read-may-follow : tie.Need-shared-slice-read-may-follow
-shared-slice-read-may-follow c = search needs
-
-may-follow-requires : tie.Need-may-follow-requires
-may-follow-requires c κs = search needs
-
 returns-3 : tie.Need-returns-3
 unfolding misplaced
 returns-3 c = simp (last (c .before .before .before), or-false, ne-eqb _ _ (c .before .before .if3 .left), c .may-follow .ensures)
@@ -56,13 +35,13 @@ pub is-misplaced-spec : {M : Type 1} → statement M
 is-misplaced-spec =
     tie.close
     (tie.spec
-    mul-present
-    shared-slice-read-present
-    add-if1
+    (λ c. search needs)
+    (λ c. search needs)
+    (λ c. search needs)
     returns
     returns-2
-    sub-may-follow
-    mul-may-follow
-    shared-slice-read-may-follow
-    may-follow-requires
+    (λ c. search needs)
+    (λ c. search needs)
+    (λ c. search needs)
+    (λ c κs. search needs)
     returns-3)

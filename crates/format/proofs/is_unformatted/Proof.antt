@@ -7,31 +7,13 @@ use borrow.Author.Needs.{needs}
 use Rattle.format.proofs.is_unformatted.Statement.{statement}
 use Rattle.format.proofs.is_unformatted.Tie as tie
 
-sub-has-unprintable : tie.Need-sub-has-unprintable
-sub-has-unprintable c = search needs
-
-part-has-unprintable-start : tie.Need-part-has-unprintable-start
-part-has-unprintable-start c = search needs
-
-part-has-unprintable-end : tie.Need-part-has-unprintable-end
-part-has-unprintable-end c = search needs
-
-has-unprintable-requires : tie.Need-has-unprintable-requires
-has-unprintable-requires c κs = search needs
-
 returns : tie.Need-returns
 unfolding unformatted
 returns c = simp (sym (c .before .has-unprintable .ensures) ∙ c .if1 .taken)
 
-record-at-requires : tie.Need-record-at-requires
-record-at-requires c κs = search needs
-
 returns-2 : tie.Need-returns-2
 unfolding unformatted
 returns-2 c = simp (sym (c .before .before .before .has-unprintable .ensures) ∙ c .before .before .if1 .left, ← c .before .record-at .ensures .type, le-leb _ _ (c .if2 .taken))
-
-field-count-requires : tie.Need-field-count-requires
-field-count-requires c κs = search needs
 
 returns-3 : tie.Need-returns-3
 unfolding unformatted
@@ -48,12 +30,12 @@ pub is-unformatted-spec : {M : Type 1} → statement M
 is-unformatted-spec =
     tie.close
     (tie.spec
-    sub-has-unprintable
-    part-has-unprintable-start
-    part-has-unprintable-end
-    has-unprintable-requires
+    (λ c. search needs)
+    (λ c. search needs)
+    (λ c. search needs)
+    (λ c κs. search needs)
     returns
-    record-at-requires
+    (λ c κs. search needs)
     returns-2
-    field-count-requires
+    (λ c κs. search needs)
     returns-3)

@@ -10,16 +10,10 @@ use native.Mathlib.Omega.{arith}
 use Rattle.headers.proofs.counts_records.Statement.{statement}
 use Rattle.headers.proofs.counts_records.Tie as tie
 
-signed-requires : tie.Need-signed-requires
-signed-requires c κs = search needs
-
-cast-result : tie.Need-cast-result
-cast-result c = search needs
-
 returns : tie.Need-returns
 returns c =
     let n = c .before .args .n in
     words-same (c .signed .result) (pos n) (search needs) (pos-fits n (omega arith)) ∙ ap (λ (z : ℤ). sameℤ z (pos n)) (c .signed .ensures)
 
 pub counts-records-spec : {M : Type 1} → statement M
-counts-records-spec = tie.close (tie.spec signed-requires cast-result returns)
+counts-records-spec = tie.close (tie.spec (λ c κs. search needs) (λ c. search needs) returns)

@@ -24,27 +24,6 @@ loop-holds c =
     let sender = c .before .args .sender in
     (omega arith, searched-none (isSender all sender) (length all / 4))
 
-mul-start : tie.Need-mul-start Inv-loop μ-loop
-mul-start c = search needs
-
-add-end : tie.Need-add-end Inv-loop μ-loop
-add-end c = search needs
-
-sub-fixed-digits : tie.Need-sub-fixed-digits Inv-loop μ-loop
-sub-fixed-digits c = search needs
-
-part-fixed-digits-start : tie.Need-part-fixed-digits-start Inv-loop μ-loop
-part-fixed-digits-start c = search needs
-
-part-fixed-digits-end : tie.Need-part-fixed-digits-end Inv-loop μ-loop
-part-fixed-digits-end c = search needs
-
-fixed-digits-requires : tie.Need-fixed-digits-requires Inv-loop μ-loop
-fixed-digits-requires c κs = search needs
-
-is-value-requires : tie.Need-is-value-requires Inv-loop μ-loop
-is-value-requires c κs = search needs
-
 returns : tie.Need-returns Inv-loop μ-loop
 returns c =
     let p = c .before .before .before .before .before in
@@ -54,12 +33,6 @@ returns c =
     let here = group-told all sender g (c .before .before .fixed-digits .ensures) (c .before .is-value .ensures) ∙ c .if1 .taken in
     let first = searched-here (isSender all sender) (length all / 4) g (omega arith) (p .loop .inv .1) here in
     sym (found-some (isSender all sender) (length all / 4) g (omega arith) first)
-
-add-g : tie.Need-add-g Inv-loop μ-loop
-add-g c = search needs
-
-loop-less : tie.Need-loop-less Inv-loop μ-loop
-loop-less c = search needs
 
 loop-again : tie.Need-loop-again Inv-loop μ-loop
 loop-again c =
@@ -86,15 +59,15 @@ is-among-spec =
     Inv-loop
     μ-loop
     loop-holds
-    mul-start
-    add-end
-    sub-fixed-digits
-    part-fixed-digits-start
-    part-fixed-digits-end
-    fixed-digits-requires
-    is-value-requires
+    (λ c. search needs)
+    (λ c. search needs)
+    (λ c. search needs)
+    (λ c. search needs)
+    (λ c. search needs)
+    (λ c κs. search needs)
+    (λ c κs. search needs)
     returns
-    add-g
-    loop-less
+    (λ c. search needs)
+    (λ c. search needs)
     loop-again
     returns-2)

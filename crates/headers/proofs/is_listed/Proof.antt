@@ -8,14 +8,8 @@ use Rattle.headers.proofs.is_listed.Tie as tie
 returns : tie.Need-returns
 returns c = rw (eq-eqb (c .before .before .args .said) 0 (c .if1 .taken))
 
-sub-is-among : tie.Need-sub-is-among
-sub-is-among c = search needs
-
-is-among-requires : tie.Need-is-among-requires
-is-among-requires c κs = search needs
-
 returns-2 : tie.Need-returns-2
 returns-2 c = rw (ne-eqb (c .before .before .before .args .said) 0 (c .before .if1 .left)) (c .is-among .ensures)
 
 pub is-listed-spec : {M : Type 1} → statement M
-is-listed-spec = tie.close (tie.spec returns sub-is-among is-among-requires returns-2)
+is-listed-spec = tie.close (tie.spec returns (λ c. search needs) (λ c κs. search needs) returns-2)

@@ -12,11 +12,8 @@ use Rattle.headers.proofs.is_ours.Tie as tie
 returns : tie.Need-returns
 returns c = sym (ne-eqb (c .before .args .said) (c .before .args .retailer + 1) (λ e. omega arith))
 
-sub-result : tie.Need-sub-result
-sub-result c = search needs
-
 returns-2 : tie.Need-returns-2
 returns-2 c = let s = c .before in one-more (s .args .said) (s .args .said - 1) (s .args .retailer) (omega arith)
 
 pub is-ours-spec : {M : Type 1} → statement M
-is-ours-spec = tie.close (tie.spec returns sub-result returns-2)
+is-ours-spec = tie.close (tie.spec returns (λ c. search needs) returns-2)

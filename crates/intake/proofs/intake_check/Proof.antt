@@ -17,9 +17,6 @@ small c =
     let s = check-small (c .before .before .before .args .retailer) (now (c .before .before .before .args .distributors)) (now (c .before .before .before .args .file)) in
     (omega (arith, s .0, ap (λ (o : Outcome). o .number) (c .check .ensures)), omega (arith, s .1, ap (λ (o : Outcome). o .line) (c .check .ensures)))
 
-check-requires : tie.Need-check-requires
-check-requires c κs = search needs
-
 mul-result : tie.Need-mul-result
 mul-result c = omega (arith, small (c .before) .0)
 
@@ -30,4 +27,4 @@ returns : tie.Need-returns
 returns c = ap (λ (o : Outcome). packed (checkAnswer o)) (c .before .before .check .ensures)
 
 pub intake-check-spec : {M : Type 1} → statement M
-intake-check-spec = tie.close (tie.spec check-requires mul-result add-result returns)
+intake-check-spec = tie.close (tie.spec (λ c κs. search needs) mul-result add-result returns)

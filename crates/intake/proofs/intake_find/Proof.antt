@@ -1,4 +1,4 @@
--- `intake::intake_find` meets its contract: a walk of its MIR, by hand, with a branch by how many entries are in use. Each arm has two local arrays, which are lent at its beginning, each for a lifetime that is made for it, and are room again at its end (`runs`'s `Local.antt`).
+-- `intake::intake_find` meets its contract: a walk of its MIR, by hand, with branches by how many entries are in use. Each arm has two local arrays, which are lent at its beginning, each for a lifetime that is made for it, and are room again at its end (`runs`'s `Local.antt`).
 -- Of `find_in` the proof knows only that it meets its contract (`lent_ledger`'s `FindInCalled.antt`).
 -- Assumes nothing.
 use mathlib.Core.Path.{_≡_, refl, sym, ap, subst, _∙_}
@@ -21,7 +21,7 @@ use ghost.Atoms.{Atoms}
 use contract.Monad.{Fun}
 use contract.Running.{givenOf, tables, tablesOf}
 use types.Kit.{Given, Item, ‵, raw, _⊛_, some, later, ⋆, atRet, _$_, _∵_, !, qed, by, move, keep, drop as loses, use1, use2, use3, split, join, group, pick, learn, fsplit, fjoin, suffices, frame, await, done}
-use types.Run.{look, init, forget, stop, hop, fld, from, load as loads, lit, addr, of-opd, bin, and-then, no-more, assigns, first, branches, skips, exec, calls, land, returns, returns-within, enter, alloc1, alloc0, params1, pass1, pass0, free1, free0}
+use types.Run.{look, store as stores, init, forget, stop, hop, fld, from, load as loads, lit, addr, of-opd, bin, and-then, no-more, assigns, first, branches, skips, exec, calls, land, returns, returns-within, enter, alloc1, alloc0, params1, pass1, pass0, free1, free0}
 use types.Part.{agg, rep, whole, sub, look-in}
 use types.Tokens.{lft-new}
 use sound.WpLaws.{FmC, fmOf, WpFn-mono}
@@ -74,6 +74,12 @@ room₁-1024 = (lit< tt, lit< tt)
 
 room₂-1024 : Room i64 2048
 room₂-1024 = (lit< tt, lit< tt)
+
+room₁-4096 : Room u64 36864
+room₁-4096 = (lit< tt, lit< tt)
+
+room₂-4096 : Room i64 8192
+room₂-4096 = (lit< tt, lit< tt)
 
 room₁-8192 : Room u64 73728
 room₁-8192 = (lit< tt, lit< tt)
@@ -135,60 +141,88 @@ module _ {M : Type 1} (𝓤 : URA M) (H : Heap 𝓤) (A : Atoms 𝓤) (W : Given
         split ! $ move ! (2 ∷ []) $ fsplit ! $ move ! (1 ∷ []) $ fsplit ! $ move ! (1 ∷ []) $ fsplit ! $ move ! (1 ∷ []) $ fsplit ! $
         -- [the last number; true; the others; the run; κ₀'s token; true]
         keep ! (4 ∷ 5 ∷ []) $ join ! $ enter ! C Λ code.function vs _ $
-        alloc1 ! (λ l₀. alloc1 ! (λ l₁. alloc1 ! (λ l₂. alloc1 ! (λ l₃. alloc1 ! (λ l₄. alloc1 ! (λ l₅. alloc1 ! (λ l₆. alloc1 ! (λ l₇. alloc1 ! (λ l₈. alloc1 ! (λ l₉. alloc1 ! (λ l₁₀. alloc1 ! (λ l₁₁. alloc1 ! (λ l₁₂. alloc1 ! (λ l₁₃. alloc1 ! (λ l₁₄. alloc1 ! (λ l₁₅. alloc1 ! (λ l₁₆. alloc1 ! (λ l₁₇. alloc0 ! $ params1 ! $
-        pass1 ! (init ! 32 refl (tt, (tt, (record { fits = room₀ .0 }, tt)))) $ pass1 ! (init ! 30 refl (tt, record { fits = gused })) $ pass1 ! (init ! 28 refl (tt, record { fits = gsite })) $ pass1 ! (init ! 26 refl (tt, record { fits = gday })) $ pass0 ! $
-        assigns ! (bin ! (loads ! (from ! (stop !)) (look ! 30 refl)) (big-lit ! (record { fits = lit< tt })) tt) (from ! (stop !)) (init ! 16 refl (tt, tt)) $
-        first ! $ branches ! (loads ! (from ! (stop !)) (look ! 16 refl))
-        -- a small ledger
-        (λ few. assigns ! (rep ! 9216 (lit ! tt)) (from ! (stop !)) (init ! 24 refl (local-typed 𝓤 H A W u64 9216 0 (vint w64 0) zero₁ (uint-lawful 𝓤 H A W w64))) $
-        assigns ! (rep ! 2048 (lit ! tt)) (from ! (stop !)) (init ! 22 refl (local-typed 𝓤 H A W i64 2048 (pos 0) (vint w64 0) zero₂ (sint-lawful 𝓤 H A W w64))) $
-        lft-new ! tt (λ α₁. move ! (25 ∷ []) $ use1 W (local-lent 𝓤 H A W u64 9216 0 (vint w64 0) zero₁ (named 0) (α₁ ∷ []) l₅) (local-lends 𝓤 H A W u64 9216 0 (vint w64 0) zero₁ tt room₁-1024 (uint-makes 𝓤 H A W w64) (named 0) (α₁ ∷ []) l₅) $ await ! tt $ pick ! (λ g₁. learn ! (λ e₁. split ! $
-        lft-new ! tt (λ α₂. move ! (26 ∷ []) $ use1 W (local-lent 𝓤 H A W i64 2048 (pos 0) (vint w64 0) zero₂ (named 1) (α₂ ∷ []) l₆) (local-lends 𝓤 H A W i64 2048 (pos 0) (vint w64 0) zero₂ tt room₂-1024 (sint-makes 𝓤 H A W w64) (named 1) (α₂ ∷ []) l₆) $ await ! tt $ pick ! (λ g₂. learn ! (λ e₂. split ! $
+        alloc1 ! (λ l₀. alloc1 ! (λ l₁. alloc1 ! (λ l₂. alloc1 ! (λ l₃. alloc1 ! (λ l₄. alloc1 ! (λ l₅. alloc1 ! (λ l₆. alloc1 ! (λ l₇. alloc1 ! (λ l₈. alloc1 ! (λ l₉. alloc1 ! (λ l₁₀. alloc1 ! (λ l₁₁. alloc1 ! (λ l₁₂. alloc1 ! (λ l₁₃. alloc1 ! (λ l₁₄. alloc1 ! (λ l₁₅. alloc1 ! (λ l₁₆. alloc1 ! (λ l₁₇. alloc1 ! (λ l₁₈. alloc1 ! (λ l₁₉. alloc1 ! (λ l₂₀. alloc1 ! (λ l₂₁. alloc1 ! (λ l₂₂. alloc1 ! (λ l₂₃. alloc0 ! $ params1 ! $
+        pass1 ! (init ! 44 refl (tt, (tt, (record { fits = room₀ .0 }, tt)))) $ pass1 ! (init ! 42 refl (tt, record { fits = gused })) $ pass1 ! (init ! 40 refl (tt, record { fits = gsite })) $ pass1 ! (init ! 38 refl (tt, record { fits = gday })) $ pass0 ! $
+        assigns ! (bin ! (loads ! (from ! (stop !)) (look ! 42 refl)) (big-lit ! (record { fits = lit< tt })) tt) (from ! (stop !)) (init ! 24 refl (tt, tt)) $
+        first ! $ branches ! (loads ! (from ! (stop !)) (look ! 24 refl))
+        -- words for 1,024 entries
+        (λ fits0. assigns ! (rep ! 9216 (lit ! tt)) (from ! (stop !)) (init ! 36 refl (local-typed 𝓤 H A W u64 9216 0 (vint w64 0) zero₁ (uint-lawful 𝓤 H A W w64))) $
+        assigns ! (rep ! 2048 (lit ! tt)) (from ! (stop !)) (init ! 34 refl (local-typed 𝓤 H A W i64 2048 (pos 0) (vint w64 0) zero₂ (sint-lawful 𝓤 H A W w64))) $
+        lft-new ! tt (λ α₁. move ! (37 ∷ []) $ use1 W (local-lent 𝓤 H A W u64 9216 0 (vint w64 0) zero₁ (named 0) (α₁ ∷ []) l₅) (local-lends 𝓤 H A W u64 9216 0 (vint w64 0) zero₁ tt room₁-1024 (uint-makes 𝓤 H A W w64) (named 0) (α₁ ∷ []) l₅) $ await ! tt $ pick ! (λ g₁. learn ! (λ e₁. split ! $
+        lft-new ! tt (λ α₂. move ! (38 ∷ []) $ use1 W (local-lent 𝓤 H A W i64 2048 (pos 0) (vint w64 0) zero₂ (named 1) (α₂ ∷ []) l₆) (local-lends 𝓤 H A W i64 2048 (pos 0) (vint w64 0) zero₂ tt room₂-1024 (sint-makes 𝓤 H A W w64) (named 1) (α₂ ∷ []) l₆) $ await ! tt $ pick ! (λ g₂. learn ! (λ e₂. split ! $
         -- [the amounts; their lender's part; α₂'s token; the words; their lender's part; α₁'s token; the locals; the run]
-        move ! (3 ∷ 0 ∷ 5 ∷ 2 ∷ 40 ∷ 4 ∷ 1 ∷ []) $ group ! 4 $
+        move ! (3 ∷ 0 ∷ 5 ∷ 2 ∷ 52 ∷ 4 ∷ 1 ∷ []) $ group ! 4 $
         -- [the words and the amounts; the run; the lender's parts; the locals]: `find_in` is called
-        assigns ! (addr ! (from ! (stop !))) (from ! (stop !)) (init ! 18 refl (tt, tt)) $
-        assigns ! (agg ! (and-then ! (loads ! (from ! (stop !)) (look ! 18 refl)) (and-then ! (big-lit ! (record { fits = room₁-1024 .0 })) (no-more !)))) (from ! (stop !)) (init ! 16 refl (tt, (tt, (record { fits = room₁-1024 .0 }, tt)))) $
-        assigns ! (addr ! (from ! (stop !))) (from ! (stop !)) (init ! 14 refl (tt, tt)) $
-        assigns ! (agg ! (and-then ! (loads ! (from ! (stop !)) (look ! 14 refl)) (and-then ! (big-lit ! (record { fits = room₂-1024 .0 })) (no-more !)))) (from ! (stop !)) (init ! 12 refl (tt, (tt, (record { fits = room₂-1024 .0 }, tt)))) $
+        assigns ! (addr ! (from ! (stop !))) (from ! (stop !)) (init ! 26 refl (tt, tt)) $
+        assigns ! (agg ! (and-then ! (loads ! (from ! (stop !)) (look ! 26 refl)) (and-then ! (big-lit ! (record { fits = room₁-1024 .0 })) (no-more !)))) (from ! (stop !)) (init ! 24 refl (tt, (tt, (record { fits = room₁-1024 .0 }, tt)))) $
+        assigns ! (addr ! (from ! (stop !))) (from ! (stop !)) (init ! 22 refl (tt, tt)) $
+        assigns ! (agg ! (and-then ! (loads ! (from ! (stop !)) (look ! 22 refl)) (and-then ! (big-lit ! (record { fits = room₂-1024 .0 })) (no-more !)))) (from ! (stop !)) (init ! 20 refl (tt, (tt, (record { fits = room₂-1024 .0 }, tt)))) $
         use2 W (later (raw (C #find-in (s₀ ∷ vint w64 used ∷ vint w64 site ∷ vint w64 day ∷ sliceVal (l₅, 0) 9216 ∷ sliceVal (l₆, 0) 2048 ∷ []) (λ u. ⋆ 𝓤 H A (find-in-got 𝓤 H A W mem run C fm (α₁ ∷ []) (α₂ ∷ []) fullShare fullShare l₅ 0 l₆ 0 (g₁ .0) (g₂ .0) 9216 2048 (g₁ .1) (g₂ .1) e₁ e₂ room₁-1024 room₂-1024 known κ₀ q₀ r used site day u ∷ [])))))
-        (find-in-called 𝓤 H A W mem run C fm (α₁ ∷ []) (α₂ ∷ []) fullShare fullShare l₅ 0 l₆ 0 (g₁ .0) (g₂ .0) 9216 2048 (g₁ .1) (g₂ .1) e₁ e₂ room₁-1024 room₂-1024 known κ₀ q₀ r used site day gused gsite gday (has-room 1024 (g₁ .1) (g₂ .1) (readCount n used) e₁ e₂ (read-below n used 1024 (leb→le used 1024 few)))) $ await ! tt $
-        calls ! fm (find-in-got 𝓤 H A W mem run C fm (α₁ ∷ []) (α₂ ∷ []) fullShare fullShare l₅ 0 l₆ 0 (g₁ .0) (g₂ .0) 9216 2048 (g₁ .1) (g₂ .1) e₁ e₂ room₁-1024 room₂-1024 known κ₀ q₀ r used site day) (and-then ! (loads ! (from ! (stop !)) (look ! 33 refl)) (and-then ! (loads ! (from ! (stop !)) (look ! 31 refl)) (and-then ! (loads ! (from ! (stop !)) (look ! 29 refl)) (and-then ! (loads ! (from ! (stop !)) (look ! 27 refl)) (and-then ! (loads ! (from ! (stop !)) (look ! 15 refl)) (and-then ! (loads ! (from ! (stop !)) (look ! 11 refl)) (no-more !))))))) (λ u. await ! tt $ pick ! (λ ls. learn ! (λ ms.
-        land ! (from ! (stop !)) (init ! 35 refl (LL.lawful R.the-type R′.the-laws 𝓤 H A W .typed answer _ (ms .0) .0)) $ split ! $
+        (find-in-called 𝓤 H A W mem run C fm (α₁ ∷ []) (α₂ ∷ []) fullShare fullShare l₅ 0 l₆ 0 (g₁ .0) (g₂ .0) 9216 2048 (g₁ .1) (g₂ .1) e₁ e₂ room₁-1024 room₂-1024 known κ₀ q₀ r used site day gused gsite gday (has-room 1024 (g₁ .1) (g₂ .1) (readCount n used) e₁ e₂ (read-below n used 1024 (leb→le used 1024 fits0)))) $ await ! tt $
+        calls ! fm (find-in-got 𝓤 H A W mem run C fm (α₁ ∷ []) (α₂ ∷ []) fullShare fullShare l₅ 0 l₆ 0 (g₁ .0) (g₂ .0) 9216 2048 (g₁ .1) (g₂ .1) e₁ e₂ room₁-1024 room₂-1024 known κ₀ q₀ r used site day) (and-then ! (loads ! (from ! (stop !)) (look ! 45 refl)) (and-then ! (loads ! (from ! (stop !)) (look ! 43 refl)) (and-then ! (loads ! (from ! (stop !)) (look ! 41 refl)) (and-then ! (loads ! (from ! (stop !)) (look ! 39 refl)) (and-then ! (loads ! (from ! (stop !)) (look ! 23 refl)) (and-then ! (loads ! (from ! (stop !)) (look ! 19 refl)) (no-more !))))))) (λ u. await ! tt $ pick ! (λ ls. learn ! (λ ms.
+        land ! (from ! (stop !)) (init ! 47 refl (LL.lawful R.the-type R′.the-laws 𝓤 H A W .typed answer _ (ms .0) .0)) $ split ! $
         -- the arrays are room again
         split ! $ move ! (1 ∷ []) $ split ! $ move ! (1 ∷ []) $ split ! $
         -- [α₁'s token; α₂'s token; the amounts; the words; the rest]
         move ! (3 ∷ 0 ∷ 5 ∷ []) $ use3 W (later (‵ (froom (tyArray (tyInt w64) 9216) l₅ 0))) (local-back 𝓤 H A W u64 9216 (named 0) α₁ (g₁ .0) (ls .0) l₅) $ await ! tt $
         move ! (2 ∷ 1 ∷ 4 ∷ []) $ use3 W (later (‵ (froom (tyArray (tyInt w64) 2048) l₆ 0))) (local-back 𝓤 H A W i64 2048 (named 1) α₂ (g₂ .0) (ls .1) l₆) $ await ! tt $
         -- [the arrays' rooms; the run; the locals]
-        returns-within ! Post refl (look ! 35 refl) $ forget ! 35 refl $ forget ! 33 refl $ forget ! 31 refl $ forget ! 29 refl $ forget ! 27 refl $ forget ! 19 refl $ forget ! 17 refl $ forget ! 15 refl $ forget ! 13 refl $ forget ! 11 refl $
-        move ! (35 ∷ 36 ∷ []) $ free1 ! $ move ! (33 ∷ 34 ∷ []) $ free1 ! $ move ! (31 ∷ 32 ∷ []) $ free1 ! $ move ! (29 ∷ 30 ∷ []) $ free1 ! $ move ! (27 ∷ 28 ∷ []) $ free1 ! $ move ! (1 ∷ 26 ∷ []) $ free1 ! $ move ! (0 ∷ 24 ∷ []) $ free1 ! $ move ! (21 ∷ 22 ∷ []) $ free1 ! $ move ! (19 ∷ 20 ∷ []) $ free1 ! $ move ! (17 ∷ 18 ∷ []) $ free1 ! $ move ! (15 ∷ 16 ∷ []) $ free1 ! $ move ! (13 ∷ 14 ∷ []) $ free1 ! $ move ! (11 ∷ 12 ∷ []) $ free1 ! $ move ! (9 ∷ 10 ∷ []) $ free1 ! $ move ! (7 ∷ 8 ∷ []) $ free1 ! $ move ! (5 ∷ 6 ∷ []) $ free1 ! $ move ! (3 ∷ 4 ∷ []) $ free1 ! $ move ! (1 ∷ 2 ∷ []) $ free1 ! $ free0 ! $
+        returns-within ! Post refl (look ! 47 refl) $ forget ! 47 refl $ forget ! 45 refl $ forget ! 43 refl $ forget ! 41 refl $ forget ! 39 refl $ forget ! 27 refl $ forget ! 25 refl $ forget ! 23 refl $ forget ! 21 refl $ forget ! 19 refl $
+        move ! (47 ∷ 48 ∷ []) $ free1 ! $ move ! (45 ∷ 46 ∷ []) $ free1 ! $ move ! (43 ∷ 44 ∷ []) $ free1 ! $ move ! (41 ∷ 42 ∷ []) $ free1 ! $ move ! (39 ∷ 40 ∷ []) $ free1 ! $ move ! (1 ∷ 38 ∷ []) $ free1 ! $ move ! (0 ∷ 36 ∷ []) $ free1 ! $ move ! (33 ∷ 34 ∷ []) $ free1 ! $ move ! (31 ∷ 32 ∷ []) $ free1 ! $ move ! (29 ∷ 30 ∷ []) $ free1 ! $ move ! (27 ∷ 28 ∷ []) $ free1 ! $ move ! (25 ∷ 26 ∷ []) $ free1 ! $ move ! (23 ∷ 24 ∷ []) $ free1 ! $ move ! (21 ∷ 22 ∷ []) $ free1 ! $ move ! (19 ∷ 20 ∷ []) $ free1 ! $ move ! (17 ∷ 18 ∷ []) $ free1 ! $ move ! (15 ∷ 16 ∷ []) $ free1 ! $ move ! (13 ∷ 14 ∷ []) $ free1 ! $ move ! (11 ∷ 12 ∷ []) $ free1 ! $ move ! (9 ∷ 10 ∷ []) $ free1 ! $ move ! (7 ∷ 8 ∷ []) $ free1 ! $ move ! (5 ∷ 6 ∷ []) $ free1 ! $ move ! (3 ∷ 4 ∷ []) $ free1 ! $ move ! (1 ∷ 2 ∷ []) $ free1 ! $ free0 ! $
         by ! (exits u gused gsite gday (ms .0))))))))))))
-        -- a large one
-        (λ many. skips ! $ exec ! C Λ ((τ 0, l₀) ∷ (τ 1, l₁) ∷ (τ 2, l₂) ∷ (τ 3, l₃) ∷ (τ 4, l₄) ∷ (τ 5, l₅) ∷ (τ 6, l₆) ∷ (τ 7, l₇) ∷ (τ 8, l₈) ∷ (τ 9, l₉) ∷ (τ 10, l₁₀) ∷ (τ 11, l₁₁) ∷ (τ 12, l₁₂) ∷ (τ 13, l₁₃) ∷ (τ 14, l₁₄) ∷ (τ 15, l₁₅) ∷ (τ 16, l₁₆) ∷ (τ 17, l₁₇) ∷ []) parts.t-3 (atRet ((τ 0, l₀) ∷ (τ 1, l₁) ∷ (τ 2, l₂) ∷ (τ 3, l₃) ∷ (τ 4, l₄) ∷ (τ 5, l₅) ∷ (τ 6, l₆) ∷ (τ 7, l₇) ∷ (τ 8, l₈) ∷ (τ 9, l₉) ∷ (τ 10, l₁₀) ∷ (τ 11, l₁₁) ∷ (τ 12, l₁₂) ∷ (τ 13, l₁₃) ∷ (τ 14, l₁₄) ∷ (τ 15, l₁₅) ∷ (τ 16, l₁₆) ∷ (τ 17, l₁₇) ∷ []) Post) $ assigns ! (rep ! 73728 (lit ! tt)) (from ! (stop !)) (init ! 20 refl (local-typed 𝓤 H A W u64 73728 0 (vint w64 0) zero₁ (uint-lawful 𝓤 H A W w64))) $
-        assigns ! (rep ! 16384 (lit ! tt)) (from ! (stop !)) (init ! 18 refl (local-typed 𝓤 H A W i64 16384 (pos 0) (vint w64 0) zero₂ (sint-lawful 𝓤 H A W w64))) $
-        lft-new ! tt (λ α₁. move ! (21 ∷ []) $ use1 W (local-lent 𝓤 H A W u64 73728 0 (vint w64 0) zero₁ (named 0) (α₁ ∷ []) l₇) (local-lends 𝓤 H A W u64 73728 0 (vint w64 0) zero₁ tt room₁-8192 (uint-makes 𝓤 H A W w64) (named 0) (α₁ ∷ []) l₇) $ await ! tt $ pick ! (λ g₁. learn ! (λ e₁. split ! $
-        lft-new ! tt (λ α₂. move ! (22 ∷ []) $ use1 W (local-lent 𝓤 H A W i64 16384 (pos 0) (vint w64 0) zero₂ (named 1) (α₂ ∷ []) l₈) (local-lends 𝓤 H A W i64 16384 (pos 0) (vint w64 0) zero₂ tt room₂-8192 (sint-makes 𝓤 H A W w64) (named 1) (α₂ ∷ []) l₈) $ await ! tt $ pick ! (λ g₂. learn ! (λ e₂. split ! $
+        -- words for more
+        (λ more0. skips ! $ exec ! C Λ ((τ 0, l₀) ∷ (τ 1, l₁) ∷ (τ 2, l₂) ∷ (τ 3, l₃) ∷ (τ 4, l₄) ∷ (τ 5, l₅) ∷ (τ 6, l₆) ∷ (τ 7, l₇) ∷ (τ 8, l₈) ∷ (τ 9, l₉) ∷ (τ 10, l₁₀) ∷ (τ 11, l₁₁) ∷ (τ 12, l₁₂) ∷ (τ 13, l₁₃) ∷ (τ 14, l₁₄) ∷ (τ 15, l₁₅) ∷ (τ 16, l₁₆) ∷ (τ 17, l₁₇) ∷ (τ 18, l₁₈) ∷ (τ 19, l₁₉) ∷ (τ 20, l₂₀) ∷ (τ 21, l₂₁) ∷ (τ 22, l₂₂) ∷ (τ 23, l₂₃) ∷ []) parts.t-3 (atRet ((τ 0, l₀) ∷ (τ 1, l₁) ∷ (τ 2, l₂) ∷ (τ 3, l₃) ∷ (τ 4, l₄) ∷ (τ 5, l₅) ∷ (τ 6, l₆) ∷ (τ 7, l₇) ∷ (τ 8, l₈) ∷ (τ 9, l₉) ∷ (τ 10, l₁₀) ∷ (τ 11, l₁₁) ∷ (τ 12, l₁₂) ∷ (τ 13, l₁₃) ∷ (τ 14, l₁₄) ∷ (τ 15, l₁₅) ∷ (τ 16, l₁₆) ∷ (τ 17, l₁₇) ∷ (τ 18, l₁₈) ∷ (τ 19, l₁₉) ∷ (τ 20, l₂₀) ∷ (τ 21, l₂₁) ∷ (τ 22, l₂₂) ∷ (τ 23, l₂₃) ∷ []) Post) $ assigns ! (bin ! (loads ! (from ! (stop !)) (look ! 42 refl)) (big-lit ! (record { fits = lit< tt })) tt) (from ! (stop !)) (stores ! 24 refl (tt, tt)) $
+        first ! $ branches ! (loads ! (from ! (stop !)) (look ! 24 refl))
+        -- words for 4,096 entries
+        (λ fits1. assigns ! (rep ! 36864 (lit ! tt)) (from ! (stop !)) (init ! 32 refl (local-typed 𝓤 H A W u64 36864 0 (vint w64 0) zero₁ (uint-lawful 𝓤 H A W w64))) $
+        assigns ! (rep ! 8192 (lit ! tt)) (from ! (stop !)) (init ! 30 refl (local-typed 𝓤 H A W i64 8192 (pos 0) (vint w64 0) zero₂ (sint-lawful 𝓤 H A W w64))) $
+        lft-new ! tt (λ α₁. move ! (33 ∷ []) $ use1 W (local-lent 𝓤 H A W u64 36864 0 (vint w64 0) zero₁ (named 0) (α₁ ∷ []) l₇) (local-lends 𝓤 H A W u64 36864 0 (vint w64 0) zero₁ tt room₁-4096 (uint-makes 𝓤 H A W w64) (named 0) (α₁ ∷ []) l₇) $ await ! tt $ pick ! (λ g₁. learn ! (λ e₁. split ! $
+        lft-new ! tt (λ α₂. move ! (34 ∷ []) $ use1 W (local-lent 𝓤 H A W i64 8192 (pos 0) (vint w64 0) zero₂ (named 1) (α₂ ∷ []) l₈) (local-lends 𝓤 H A W i64 8192 (pos 0) (vint w64 0) zero₂ tt room₂-4096 (sint-makes 𝓤 H A W w64) (named 1) (α₂ ∷ []) l₈) $ await ! tt $ pick ! (λ g₂. learn ! (λ e₂. split ! $
         -- [the amounts; their lender's part; α₂'s token; the words; their lender's part; α₁'s token; the locals; the run]
-        move ! (3 ∷ 0 ∷ 5 ∷ 2 ∷ 40 ∷ 4 ∷ 1 ∷ []) $ group ! 4 $
+        move ! (3 ∷ 0 ∷ 5 ∷ 2 ∷ 52 ∷ 4 ∷ 1 ∷ []) $ group ! 4 $
+        -- [the words and the amounts; the run; the lender's parts; the locals]: `find_in` is called
+        assigns ! (addr ! (from ! (stop !))) (from ! (stop !)) (init ! 18 refl (tt, tt)) $
+        assigns ! (agg ! (and-then ! (loads ! (from ! (stop !)) (look ! 18 refl)) (and-then ! (big-lit ! (record { fits = room₁-4096 .0 })) (no-more !)))) (from ! (stop !)) (init ! 16 refl (tt, (tt, (record { fits = room₁-4096 .0 }, tt)))) $
+        assigns ! (addr ! (from ! (stop !))) (from ! (stop !)) (init ! 14 refl (tt, tt)) $
+        assigns ! (agg ! (and-then ! (loads ! (from ! (stop !)) (look ! 14 refl)) (and-then ! (big-lit ! (record { fits = room₂-4096 .0 })) (no-more !)))) (from ! (stop !)) (init ! 12 refl (tt, (tt, (record { fits = room₂-4096 .0 }, tt)))) $
+        use2 W (later (raw (C #find-in (s₀ ∷ vint w64 used ∷ vint w64 site ∷ vint w64 day ∷ sliceVal (l₇, 0) 36864 ∷ sliceVal (l₈, 0) 8192 ∷ []) (λ u. ⋆ 𝓤 H A (find-in-got 𝓤 H A W mem run C fm (α₁ ∷ []) (α₂ ∷ []) fullShare fullShare l₇ 0 l₈ 0 (g₁ .0) (g₂ .0) 36864 8192 (g₁ .1) (g₂ .1) e₁ e₂ room₁-4096 room₂-4096 known κ₀ q₀ r used site day u ∷ [])))))
+        (find-in-called 𝓤 H A W mem run C fm (α₁ ∷ []) (α₂ ∷ []) fullShare fullShare l₇ 0 l₈ 0 (g₁ .0) (g₂ .0) 36864 8192 (g₁ .1) (g₂ .1) e₁ e₂ room₁-4096 room₂-4096 known κ₀ q₀ r used site day gused gsite gday (has-room 4096 (g₁ .1) (g₂ .1) (readCount n used) e₁ e₂ (read-below n used 4096 (leb→le used 4096 fits1)))) $ await ! tt $
+        calls ! fm (find-in-got 𝓤 H A W mem run C fm (α₁ ∷ []) (α₂ ∷ []) fullShare fullShare l₇ 0 l₈ 0 (g₁ .0) (g₂ .0) 36864 8192 (g₁ .1) (g₂ .1) e₁ e₂ room₁-4096 room₂-4096 known κ₀ q₀ r used site day) (and-then ! (loads ! (from ! (stop !)) (look ! 45 refl)) (and-then ! (loads ! (from ! (stop !)) (look ! 43 refl)) (and-then ! (loads ! (from ! (stop !)) (look ! 41 refl)) (and-then ! (loads ! (from ! (stop !)) (look ! 39 refl)) (and-then ! (loads ! (from ! (stop !)) (look ! 15 refl)) (and-then ! (loads ! (from ! (stop !)) (look ! 11 refl)) (no-more !))))))) (λ u. await ! tt $ pick ! (λ ls. learn ! (λ ms.
+        land ! (from ! (stop !)) (init ! 47 refl (LL.lawful R.the-type R′.the-laws 𝓤 H A W .typed answer _ (ms .0) .0)) $ split ! $
+        -- the arrays are room again
+        split ! $ move ! (1 ∷ []) $ split ! $ move ! (1 ∷ []) $ split ! $
+        -- [α₁'s token; α₂'s token; the amounts; the words; the rest]
+        move ! (3 ∷ 0 ∷ 5 ∷ []) $ use3 W (later (‵ (froom (tyArray (tyInt w64) 36864) l₇ 0))) (local-back 𝓤 H A W u64 36864 (named 0) α₁ (g₁ .0) (ls .0) l₇) $ await ! tt $
+        move ! (2 ∷ 1 ∷ 4 ∷ []) $ use3 W (later (‵ (froom (tyArray (tyInt w64) 8192) l₈ 0))) (local-back 𝓤 H A W i64 8192 (named 1) α₂ (g₂ .0) (ls .1) l₈) $ await ! tt $
+        -- [the arrays' rooms; the run; the locals]
+        returns-within ! Post refl (look ! 47 refl) $ forget ! 47 refl $ forget ! 45 refl $ forget ! 43 refl $ forget ! 41 refl $ forget ! 39 refl $ forget ! 27 refl $ forget ! 17 refl $ forget ! 15 refl $ forget ! 13 refl $ forget ! 11 refl $
+        move ! (47 ∷ 48 ∷ []) $ free1 ! $ move ! (45 ∷ 46 ∷ []) $ free1 ! $ move ! (43 ∷ 44 ∷ []) $ free1 ! $ move ! (41 ∷ 42 ∷ []) $ free1 ! $ move ! (39 ∷ 40 ∷ []) $ free1 ! $ move ! (37 ∷ 38 ∷ []) $ free1 ! $ move ! (35 ∷ 36 ∷ []) $ free1 ! $ move ! (1 ∷ 34 ∷ []) $ free1 ! $ move ! (0 ∷ 32 ∷ []) $ free1 ! $ move ! (29 ∷ 30 ∷ []) $ free1 ! $ move ! (27 ∷ 28 ∷ []) $ free1 ! $ move ! (25 ∷ 26 ∷ []) $ free1 ! $ move ! (23 ∷ 24 ∷ []) $ free1 ! $ move ! (21 ∷ 22 ∷ []) $ free1 ! $ move ! (19 ∷ 20 ∷ []) $ free1 ! $ move ! (17 ∷ 18 ∷ []) $ free1 ! $ move ! (15 ∷ 16 ∷ []) $ free1 ! $ move ! (13 ∷ 14 ∷ []) $ free1 ! $ move ! (11 ∷ 12 ∷ []) $ free1 ! $ move ! (9 ∷ 10 ∷ []) $ free1 ! $ move ! (7 ∷ 8 ∷ []) $ free1 ! $ move ! (5 ∷ 6 ∷ []) $ free1 ! $ move ! (3 ∷ 4 ∷ []) $ free1 ! $ move ! (1 ∷ 2 ∷ []) $ free1 ! $ free0 ! $
+        by ! (exits u gused gsite gday (ms .0))))))))))))
+        -- words for more
+        (λ more1. skips ! $ exec ! C Λ ((τ 0, l₀) ∷ (τ 1, l₁) ∷ (τ 2, l₂) ∷ (τ 3, l₃) ∷ (τ 4, l₄) ∷ (τ 5, l₅) ∷ (τ 6, l₆) ∷ (τ 7, l₇) ∷ (τ 8, l₈) ∷ (τ 9, l₉) ∷ (τ 10, l₁₀) ∷ (τ 11, l₁₁) ∷ (τ 12, l₁₂) ∷ (τ 13, l₁₃) ∷ (τ 14, l₁₄) ∷ (τ 15, l₁₅) ∷ (τ 16, l₁₆) ∷ (τ 17, l₁₇) ∷ (τ 18, l₁₈) ∷ (τ 19, l₁₉) ∷ (τ 20, l₂₀) ∷ (τ 21, l₂₁) ∷ (τ 22, l₂₂) ∷ (τ 23, l₂₃) ∷ []) parts.t-5 (atRet ((τ 0, l₀) ∷ (τ 1, l₁) ∷ (τ 2, l₂) ∷ (τ 3, l₃) ∷ (τ 4, l₄) ∷ (τ 5, l₅) ∷ (τ 6, l₆) ∷ (τ 7, l₇) ∷ (τ 8, l₈) ∷ (τ 9, l₉) ∷ (τ 10, l₁₀) ∷ (τ 11, l₁₁) ∷ (τ 12, l₁₂) ∷ (τ 13, l₁₃) ∷ (τ 14, l₁₄) ∷ (τ 15, l₁₅) ∷ (τ 16, l₁₆) ∷ (τ 17, l₁₇) ∷ (τ 18, l₁₈) ∷ (τ 19, l₁₉) ∷ (τ 20, l₂₀) ∷ (τ 21, l₂₁) ∷ (τ 22, l₂₂) ∷ (τ 23, l₂₃) ∷ []) Post) $ assigns ! (rep ! 73728 (lit ! tt)) (from ! (stop !)) (init ! 28 refl (local-typed 𝓤 H A W u64 73728 0 (vint w64 0) zero₁ (uint-lawful 𝓤 H A W w64))) $
+        assigns ! (rep ! 16384 (lit ! tt)) (from ! (stop !)) (init ! 26 refl (local-typed 𝓤 H A W i64 16384 (pos 0) (vint w64 0) zero₂ (sint-lawful 𝓤 H A W w64))) $
+        lft-new ! tt (λ α₁. move ! (29 ∷ []) $ use1 W (local-lent 𝓤 H A W u64 73728 0 (vint w64 0) zero₁ (named 0) (α₁ ∷ []) l₉) (local-lends 𝓤 H A W u64 73728 0 (vint w64 0) zero₁ tt room₁-8192 (uint-makes 𝓤 H A W w64) (named 0) (α₁ ∷ []) l₉) $ await ! tt $ pick ! (λ g₁. learn ! (λ e₁. split ! $
+        lft-new ! tt (λ α₂. move ! (30 ∷ []) $ use1 W (local-lent 𝓤 H A W i64 16384 (pos 0) (vint w64 0) zero₂ (named 1) (α₂ ∷ []) l₁₀) (local-lends 𝓤 H A W i64 16384 (pos 0) (vint w64 0) zero₂ tt room₂-8192 (sint-makes 𝓤 H A W w64) (named 1) (α₂ ∷ []) l₁₀) $ await ! tt $ pick ! (λ g₂. learn ! (λ e₂. split ! $
+        -- [the amounts; their lender's part; α₂'s token; the words; their lender's part; α₁'s token; the locals; the run]
+        move ! (3 ∷ 0 ∷ 5 ∷ 2 ∷ 52 ∷ 4 ∷ 1 ∷ []) $ group ! 4 $
         -- [the words and the amounts; the run; the lender's parts; the locals]: `find_in` is called
         assigns ! (addr ! (from ! (stop !))) (from ! (stop !)) (init ! 10 refl (tt, tt)) $
         assigns ! (agg ! (and-then ! (loads ! (from ! (stop !)) (look ! 10 refl)) (and-then ! (big-lit ! (record { fits = room₁-8192 .0 })) (no-more !)))) (from ! (stop !)) (init ! 8 refl (tt, (tt, (record { fits = room₁-8192 .0 }, tt)))) $
         assigns ! (addr ! (from ! (stop !))) (from ! (stop !)) (init ! 6 refl (tt, tt)) $
         assigns ! (agg ! (and-then ! (loads ! (from ! (stop !)) (look ! 6 refl)) (and-then ! (big-lit ! (record { fits = room₂-8192 .0 })) (no-more !)))) (from ! (stop !)) (init ! 4 refl (tt, (tt, (record { fits = room₂-8192 .0 }, tt)))) $
-        use2 W (later (raw (C #find-in (s₀ ∷ vint w64 used ∷ vint w64 site ∷ vint w64 day ∷ sliceVal (l₇, 0) 73728 ∷ sliceVal (l₈, 0) 16384 ∷ []) (λ u. ⋆ 𝓤 H A (find-in-got 𝓤 H A W mem run C fm (α₁ ∷ []) (α₂ ∷ []) fullShare fullShare l₇ 0 l₈ 0 (g₁ .0) (g₂ .0) 73728 16384 (g₁ .1) (g₂ .1) e₁ e₂ room₁-8192 room₂-8192 known κ₀ q₀ r used site day u ∷ [])))))
-        (find-in-called 𝓤 H A W mem run C fm (α₁ ∷ []) (α₂ ∷ []) fullShare fullShare l₇ 0 l₈ 0 (g₁ .0) (g₂ .0) 73728 16384 (g₁ .1) (g₂ .1) e₁ e₂ room₁-8192 room₂-8192 known κ₀ q₀ r used site day gused gsite gday (has-room 8192 (g₁ .1) (g₂ .1) (readCount n used) e₁ e₂ (read-cap n used))) $ await ! tt $
-        calls ! fm (find-in-got 𝓤 H A W mem run C fm (α₁ ∷ []) (α₂ ∷ []) fullShare fullShare l₇ 0 l₈ 0 (g₁ .0) (g₂ .0) 73728 16384 (g₁ .1) (g₂ .1) e₁ e₂ room₁-8192 room₂-8192 known κ₀ q₀ r used site day) (and-then ! (loads ! (from ! (stop !)) (look ! 33 refl)) (and-then ! (loads ! (from ! (stop !)) (look ! 31 refl)) (and-then ! (loads ! (from ! (stop !)) (look ! 29 refl)) (and-then ! (loads ! (from ! (stop !)) (look ! 27 refl)) (and-then ! (loads ! (from ! (stop !)) (look ! 7 refl)) (and-then ! (loads ! (from ! (stop !)) (look ! 3 refl)) (no-more !))))))) (λ u. await ! tt $ pick ! (λ ls. learn ! (λ ms.
-        land ! (from ! (stop !)) (init ! 35 refl (LL.lawful R.the-type R′.the-laws 𝓤 H A W .typed answer _ (ms .0) .0)) $ split ! $
+        use2 W (later (raw (C #find-in (s₀ ∷ vint w64 used ∷ vint w64 site ∷ vint w64 day ∷ sliceVal (l₉, 0) 73728 ∷ sliceVal (l₁₀, 0) 16384 ∷ []) (λ u. ⋆ 𝓤 H A (find-in-got 𝓤 H A W mem run C fm (α₁ ∷ []) (α₂ ∷ []) fullShare fullShare l₉ 0 l₁₀ 0 (g₁ .0) (g₂ .0) 73728 16384 (g₁ .1) (g₂ .1) e₁ e₂ room₁-8192 room₂-8192 known κ₀ q₀ r used site day u ∷ [])))))
+        (find-in-called 𝓤 H A W mem run C fm (α₁ ∷ []) (α₂ ∷ []) fullShare fullShare l₉ 0 l₁₀ 0 (g₁ .0) (g₂ .0) 73728 16384 (g₁ .1) (g₂ .1) e₁ e₂ room₁-8192 room₂-8192 known κ₀ q₀ r used site day gused gsite gday (has-room 8192 (g₁ .1) (g₂ .1) (readCount n used) e₁ e₂ (read-cap n used))) $ await ! tt $
+        calls ! fm (find-in-got 𝓤 H A W mem run C fm (α₁ ∷ []) (α₂ ∷ []) fullShare fullShare l₉ 0 l₁₀ 0 (g₁ .0) (g₂ .0) 73728 16384 (g₁ .1) (g₂ .1) e₁ e₂ room₁-8192 room₂-8192 known κ₀ q₀ r used site day) (and-then ! (loads ! (from ! (stop !)) (look ! 45 refl)) (and-then ! (loads ! (from ! (stop !)) (look ! 43 refl)) (and-then ! (loads ! (from ! (stop !)) (look ! 41 refl)) (and-then ! (loads ! (from ! (stop !)) (look ! 39 refl)) (and-then ! (loads ! (from ! (stop !)) (look ! 7 refl)) (and-then ! (loads ! (from ! (stop !)) (look ! 3 refl)) (no-more !))))))) (λ u. await ! tt $ pick ! (λ ls. learn ! (λ ms.
+        land ! (from ! (stop !)) (init ! 47 refl (LL.lawful R.the-type R′.the-laws 𝓤 H A W .typed answer _ (ms .0) .0)) $ split ! $
         -- the arrays are room again
         split ! $ move ! (1 ∷ []) $ split ! $ move ! (1 ∷ []) $ split ! $
         -- [α₁'s token; α₂'s token; the amounts; the words; the rest]
-        move ! (3 ∷ 0 ∷ 5 ∷ []) $ use3 W (later (‵ (froom (tyArray (tyInt w64) 73728) l₇ 0))) (local-back 𝓤 H A W u64 73728 (named 0) α₁ (g₁ .0) (ls .0) l₇) $ await ! tt $
-        move ! (2 ∷ 1 ∷ 4 ∷ []) $ use3 W (later (‵ (froom (tyArray (tyInt w64) 16384) l₈ 0))) (local-back 𝓤 H A W i64 16384 (named 1) α₂ (g₂ .0) (ls .1) l₈) $ await ! tt $
+        move ! (3 ∷ 0 ∷ 5 ∷ []) $ use3 W (later (‵ (froom (tyArray (tyInt w64) 73728) l₉ 0))) (local-back 𝓤 H A W u64 73728 (named 0) α₁ (g₁ .0) (ls .0) l₉) $ await ! tt $
+        move ! (2 ∷ 1 ∷ 4 ∷ []) $ use3 W (later (‵ (froom (tyArray (tyInt w64) 16384) l₁₀ 0))) (local-back 𝓤 H A W i64 16384 (named 1) α₂ (g₂ .0) (ls .1) l₁₀) $ await ! tt $
         -- [the arrays' rooms; the run; the locals]
-        returns ! (look ! 35 refl) $ forget ! 35 refl $ forget ! 33 refl $ forget ! 31 refl $ forget ! 29 refl $ forget ! 27 refl $ forget ! 19 refl $ forget ! 9 refl $ forget ! 7 refl $ forget ! 5 refl $ forget ! 3 refl $
-        move ! (35 ∷ 36 ∷ []) $ free1 ! $ move ! (33 ∷ 34 ∷ []) $ free1 ! $ move ! (31 ∷ 32 ∷ []) $ free1 ! $ move ! (29 ∷ 30 ∷ []) $ free1 ! $ move ! (27 ∷ 28 ∷ []) $ free1 ! $ move ! (25 ∷ 26 ∷ []) $ free1 ! $ move ! (23 ∷ 24 ∷ []) $ free1 ! $ move ! (1 ∷ 22 ∷ []) $ free1 ! $ move ! (0 ∷ 20 ∷ []) $ free1 ! $ move ! (17 ∷ 18 ∷ []) $ free1 ! $ move ! (15 ∷ 16 ∷ []) $ free1 ! $ move ! (13 ∷ 14 ∷ []) $ free1 ! $ move ! (11 ∷ 12 ∷ []) $ free1 ! $ move ! (9 ∷ 10 ∷ []) $ free1 ! $ move ! (7 ∷ 8 ∷ []) $ free1 ! $ move ! (5 ∷ 6 ∷ []) $ free1 ! $ move ! (3 ∷ 4 ∷ []) $ free1 ! $ move ! (1 ∷ 2 ∷ []) $ free1 ! $ free0 ! $
-        by ! (exits u gused gsite gday (ms .0))))))))))))))))))))))))))))))
+        returns ! (look ! 47 refl) $ forget ! 47 refl $ forget ! 45 refl $ forget ! 43 refl $ forget ! 41 refl $ forget ! 39 refl $ forget ! 27 refl $ forget ! 9 refl $ forget ! 7 refl $ forget ! 5 refl $ forget ! 3 refl $
+        move ! (47 ∷ 48 ∷ []) $ free1 ! $ move ! (45 ∷ 46 ∷ []) $ free1 ! $ move ! (43 ∷ 44 ∷ []) $ free1 ! $ move ! (41 ∷ 42 ∷ []) $ free1 ! $ move ! (39 ∷ 40 ∷ []) $ free1 ! $ move ! (37 ∷ 38 ∷ []) $ free1 ! $ move ! (35 ∷ 36 ∷ []) $ free1 ! $ move ! (33 ∷ 34 ∷ []) $ free1 ! $ move ! (31 ∷ 32 ∷ []) $ free1 ! $ move ! (1 ∷ 30 ∷ []) $ free1 ! $ move ! (0 ∷ 28 ∷ []) $ free1 ! $ move ! (25 ∷ 26 ∷ []) $ free1 ! $ move ! (23 ∷ 24 ∷ []) $ free1 ! $ move ! (21 ∷ 22 ∷ []) $ free1 ! $ move ! (19 ∷ 20 ∷ []) $ free1 ! $ move ! (17 ∷ 18 ∷ []) $ free1 ! $ move ! (15 ∷ 16 ∷ []) $ free1 ! $ move ! (13 ∷ 14 ∷ []) $ free1 ! $ move ! (11 ∷ 12 ∷ []) $ free1 ! $ move ! (9 ∷ 10 ∷ []) $ free1 ! $ move ! (7 ∷ 8 ∷ []) $ free1 ! $ move ! (5 ∷ 6 ∷ []) $ free1 ! $ move ! (3 ∷ 4 ∷ []) $ free1 ! $ move ! (1 ∷ 2 ∷ []) $ free1 ! $ free0 ! $
+        by ! (exits u gused gsite gday (ms .0)))))))))))))))))))))))))))))))))))))
 
 module _ {M : Type 1} (𝓤 : URA M) (H : Heap 𝓤) (A : Atoms 𝓤) (W : Given 𝓤 H A) (mem : Memory → SProp 𝓤) (run : Routine → Fun 𝓤) (𝓣 : Tables 𝓤 H)
     (known : Triple 𝓤 (𝓣 .C #find-in) (FindInContract 𝓤 H A mem run)) where

@@ -29,9 +29,6 @@ bill-file s = fileIn (now (s .args .file))
 all-named : (c : tie.Else1) → c .before .before .before .before .name-cancels .result ≡ c .before .before .before .before .before .before .before .before .before .before .before .before .before .before .before .args .n
 all-named c = let s = c .before .before .before .before .before .before .before .before .before .before .before .before .before .before .before in omega (arith, c .if1 .left, c .before .before .before .before .name-cancels .ensures .0, s .pre .1 .2 .source .count, unnamed-most (ledger s) (bill-file s))
 
-slice-aggregate-name-cancels : tie.Need-slice-aggregate-name-cancels
-slice-aggregate-name-cancels c = search needs
-
 name-cancels-requires : tie.Need-name-cancels-requires
 name-cancels-requires c κs = let s = c .before .before .before .before .before .before .before .before .before .before in (s .pre .0, ((omega (arith, s .pre .1 .0, length-replicate {A = ℕ} 8192 0), s .pre .1 .1, zeros 8192), (s .pre .1 .2 .source, s .pre .1 .2 .refers)))
 
@@ -40,12 +37,6 @@ mul-refused c = omega (arith, c .if1 .taken, c .before .before .before .before .
 
 shared-slice-read-refused : tie.Need-shared-slice-read-refused
 shared-slice-read-refused c = omega (arith, c .before .if1 .taken, c .before .before .before .before .before .before .before .before .before .before .before .before .before .before .before .before .pre .1 .2 .at-room)
-
-refused-requires : tie.Need-refused-requires
-refused-requires c κs = search needs
-
-same-length : tie.Need-same-length
-same-length c = search needs
 
 returns : tie.Need-returns
 returns c = let s = c .before .before .before .before .before .before .before .before .before .before .before .before .before .before .before .before .before in (bill-fails 39 (bill-file s) (s .pre .1 .2) (c .before .before .before .before .before .before .name-cancels .ensures .0) (c .before .before .if1 .taken) (c .refused .ensures) .first, λ e. absurd (omega (arith, sym e ∙ ap (λ (o : Outcome). o .number) (c .refused .ensures))))
@@ -59,20 +50,8 @@ mul-refused-2 c = omega (arith, c .if2 .taken, c .before .before .before .before
 shared-slice-read-refused-2 : tie.Need-shared-slice-read-refused-2
 shared-slice-read-refused-2 c = omega (arith, c .before .if2 .taken, c .before .before .before .before .before .before .before .before .before .before .before .before .before .before .before .before .before .before .before .pre .1 .2 .at-room)
 
-refused-requires-2 : tie.Need-refused-requires-2
-refused-requires-2 c κs = search needs
-
-same-length-2 : tie.Need-same-length-2
-same-length-2 c = search needs
-
 returns-2 : tie.Need-returns-2
 returns-2 c = let s = c .before .before .before .before .before .before .before .before .before .before .before .before .before .before .before .before .before .before .before .before in (bill-passes 39 (bill-file s) (s .pre .1 .2) (c .before .before .before .before .before .before .before .before .before .name-cancels .ensures .0) (c .before .before .before .before .before .if1 .left) (bill-fails 40 (bill-file s) (s .pre .1 .2) (c .before .before .before .first-unopposed .ensures) (c .before .before .if2 .taken) (c .refused2 .ensures)) .first, λ e. absurd (omega (arith, sym e ∙ ap (λ (o : Outcome). o .number) (c .refused2 .ensures))))
-
-refused-requires-3 : tie.Need-refused-requires-3
-refused-requires-3 c κs = search needs
-
-same-length-3 : tie.Need-same-length-3
-same-length-3 c = search needs
 
 returns-3 : tie.Need-returns-3
 returns-3 c = let s = c .before .before .before .before .before .before .before .before .before .before .before .before .before .before .before .before .before .before .before in (bill-passes 39 (bill-file s) (s .pre .1 .2) (c .before .before .before .before .before .before .before .before .name-cancels .ensures .0) (c .before .before .before .before .if1 .left) (bill-passes 40 (bill-file s) (s .pre .1 .2) (c .before .before .first-unopposed .ensures) (c .before .if2 .left) (none-fails (c .refused3 .ensures))) .first, λ e. c .before .before .before .before .before .before .before .before .name-cancels .ensures .1 (all-named (c .before .before .before .before)))
@@ -81,19 +60,19 @@ pub cancels-refusal-spec : {M : Type 1} → statement M
 cancels-refusal-spec =
     tie.close
     (tie.spec
-    slice-aggregate-name-cancels
+    (λ c. search needs)
     name-cancels-requires
     mul-refused
     shared-slice-read-refused
-    refused-requires
-    same-length
+    (λ c κs. search needs)
+    (λ c. search needs)
     returns
     first-unopposed-requires
     mul-refused-2
     shared-slice-read-refused-2
-    refused-requires-2
-    same-length-2
+    (λ c κs. search needs)
+    (λ c. search needs)
     returns-2
-    refused-requires-3
-    same-length-3
+    (λ c κs. search needs)
+    (λ c. search needs)
     returns-3)

@@ -30,56 +30,20 @@ test-8 c = let s = c .before .before .before .before .before .before .before .be
 past-8 : (c : tie.Else1) → hasFile (ledger (c .before .before .before .before .before .before .before .before .before .before .before .before .before .before .before)) (bill-file (c .before .before .before .before .before .before .before .before .before .before .before .before .before .before .before)) ≡ false
 past-8 c = sym (test-8 (c .before)) ∙ c .if1 .left
 
-slice-aggregate-index-keys : tie.Need-slice-aggregate-index-keys
-slice-aggregate-index-keys c = search needs
-
-slice-aggregate-index-keys-2 : tie.Need-slice-aggregate-index-keys-2
-slice-aggregate-index-keys-2 c = search needs
-
 index-keys-requires : tie.Need-index-keys-requires
 index-keys-requires c κs = let s = c .before .before .before .before .before .before .before .before in ((s .pre .0 .0, chain-room 8192 (s .args .used) (omega arith) (omega arith) (s .pre .0 .1)), zeros 8192)
-
-slice-aggregate-has-file : tie.Need-slice-aggregate-has-file
-slice-aggregate-has-file c = search needs
-
-slice-aggregate-has-file-2 : tie.Need-slice-aggregate-has-file-2
-slice-aggregate-has-file-2 c = search needs
-
-has-file-requires : tie.Need-has-file-requires
-has-file-requires c κs = search needs
-
-refused-requires : tie.Need-refused-requires
-refused-requires c κs = search needs
 
 returns : tie.Need-returns
 returns c = let s = c .before .before .before .before .before .before .before .before .before .before .before .before .before .before .before .before in (refused-file (s .args .places) (ledger s) (bill-file s) (sym (test-8 (c .before .before)) ∙ c .before .if1 .taken) (c .refused .ensures), λ e. absurd (omega (arith, sym e ∙ ap (λ (o : Outcome). o .number) (c .refused .ensures))))
 
-slice-aggregate-cancels-refusal : tie.Need-slice-aggregate-cancels-refusal
-slice-aggregate-cancels-refusal c = search needs
-
-slice-aggregate-cancels-refusal-2 : tie.Need-slice-aggregate-cancels-refusal-2
-slice-aggregate-cancels-refusal-2 c = search needs
-
 cancels-refusal-requires : tie.Need-cancels-refusal-requires
 cancels-refusal-requires c κs = let s = c .before .before .before .before .before .before .before .before .before .before .before .before .before .before .before .before .before .before in ((s .pre .0 .0, c .before .before .before .before .before .before .before .before .before .index-keys .ensures), (s .pre .0 .1, s .pre .0 .2, s .pre .1 .1))
-
-same-length : tie.Need-same-length
-same-length c = search needs
 
 returns-2 : tie.Need-returns-2
 returns-2 c = let s = c .before .before .before .before .before .before .before .before .before .before .before .before .before .before .before .before .before .before .before .before .before .before .before in (refused-cancels (s .args .places) (ledger s) (bill-file s) (past-8 (c .before .before .before .before .before .before .before .before)) (c .before .before .before .before .cancels-refusal .ensures .0) (c .if2 .taken), λ e. absurd (c .if2 .taken e))
 
-slice-aggregate-storage-refusal : tie.Need-slice-aggregate-storage-refusal
-slice-aggregate-storage-refusal c = search needs
-
-slice-aggregate-storage-refusal-2 : tie.Need-slice-aggregate-storage-refusal-2
-slice-aggregate-storage-refusal-2 c = search needs
-
 storage-refusal-requires : tie.Need-storage-refusal-requires
 storage-refusal-requires c κs = let s = c .before .before .before .before .before .before .before .before .before .before .before .before .before .before .before .before .before .before .before .before .before .before .before .before .before in ((s .pre .0 .0, c .before .before .before .before .before .before .before .before .before .before .before .before .before .before .before .before .index-keys .ensures), (s .pre .0 .1, s .pre .1 .1 .few, s .pre .1 .0, s .pre .1 .1 .source))
-
-same-length-2 : tie.Need-same-length-2
-same-length-2 c = search needs
 
 returns-3 : tie.Need-returns-3
 returns-3 c = let s = c .before .before .before .before .before .before .before .before .before .before .before .before .before .before .before .before .before .before .before .before .before .before .before .before .before .before in let cancels = c .before .before .before .before .before .before .before .cancels-refusal in let storage = c .storage-refusal in (refused-storage (s .args .places) (ledger s) (bill-file s) (past-8 (c .before .before .before .before .before .before .before .before .before .before .before)) (cancels .ensures .0) (c .before .before .before .if2 .left) (storage .ensures .0), λ e. (cancels .ensures .1 (c .before .before .before .if2 .left), storage .ensures .1 e))
@@ -88,21 +52,21 @@ pub first-refusal-spec : {M : Type 1} → statement M
 first-refusal-spec =
     tie.close
     (tie.spec
-    slice-aggregate-index-keys
-    slice-aggregate-index-keys-2
+    (λ c. search needs)
+    (λ c. search needs)
     index-keys-requires
-    slice-aggregate-has-file
-    slice-aggregate-has-file-2
-    has-file-requires
-    refused-requires
+    (λ c. search needs)
+    (λ c. search needs)
+    (λ c κs. search needs)
+    (λ c κs. search needs)
     returns
-    slice-aggregate-cancels-refusal
-    slice-aggregate-cancels-refusal-2
+    (λ c. search needs)
+    (λ c. search needs)
     cancels-refusal-requires
-    same-length
+    (λ c. search needs)
     returns-2
-    slice-aggregate-storage-refusal
-    slice-aggregate-storage-refusal-2
+    (λ c. search needs)
+    (λ c. search needs)
     storage-refusal-requires
-    same-length-2
+    (λ c. search needs)
     returns-3)

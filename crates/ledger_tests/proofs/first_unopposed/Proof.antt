@@ -34,9 +34,6 @@ loop-holds c =
 entry-at-requires : tie.Need-entry-at-requires Inv-loop μ-loop
 entry-at-requires c κs = room-fewer (omega (arith, c .loop-test .taken)) (c .before .before .before .before .before .before .pre .1 .0 .room)
 
-mul-place : tie.Need-mul-place Inv-loop μ-loop
-mul-place c = search needs
-
 shared-slice-read-place : tie.Need-shared-slice-read-place Inv-loop μ-loop
 shared-slice-read-place c =
     let s = c .before .before .before .before .before .before .before .before in
@@ -80,12 +77,6 @@ returns c =
     let p = c .before .before .before .before .before .loop in
     sym (resumed-here unopposedIn (entriesOf (now (a .words)) (now (a .amounts)) (a .used)) (fileIn (now (a .file)) .bills) (p .k) (omega (arith, s .pre .1 .0 .count, c .before .before .before .before .loop-test .taken)) (p .inv .1) (sym (tested (c .before)) ∙ c .if1 .taken))
 
-add-k : tie.Need-add-k Inv-loop μ-loop
-add-k c = search needs
-
-loop-less : tie.Need-loop-less Inv-loop μ-loop
-loop-less c = search needs
-
 loop-again : tie.Need-loop-again Inv-loop μ-loop
 loop-again c =
     let s = c .before .before .before .before .before .before .before .before .before .before in
@@ -112,12 +103,12 @@ first-unopposed-spec =
     μ-loop
     loop-holds
     entry-at-requires
-    mul-place
+    (λ c. search needs)
     shared-slice-read-place
     cast-place
     is-unopposed-requires
     returns
-    add-k
-    loop-less
+    (λ c. search needs)
+    (λ c. search needs)
     loop-again
     returns-2)

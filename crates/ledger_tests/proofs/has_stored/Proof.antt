@@ -31,9 +31,6 @@ Inv-loop words amounts used heads links file sender id bill-words bill-amounts n
 abbrev μ-loop : tie.MeasureT-loop
 μ-loop words amounts used heads links file sender id bill-words bill-amounts n k₀ k = n - k
 
-is-stored-requires : tie.Need-is-stored-requires Inv-loop μ-loop
-is-stored-requires c κs = search needs
-
 -- the file's own
 own : (c : tie.After-is-stored Inv-loop μ-loop) →
     let a = c .before .before .before .before .before .before .args in
@@ -66,9 +63,6 @@ loop-holds c = (omega arith, refl)
 entry-at-requires : tie.Need-entry-at-requires Inv-loop μ-loop
 entry-at-requires c κs = room-fewer (omega (arith, c .loop-test .taken)) (c .before .before .before .before .before .before .before .before .before .pre .1 .2 .room)
 
-is-stored-requires-2 : tie.Need-is-stored-requires-2 Inv-loop μ-loop
-is-stored-requires-2 c κs = search needs
-
 returns-2 : tie.Need-returns-2 Inv-loop μ-loop
 unfolding hasStored
 returns-2 c =
@@ -79,12 +73,6 @@ returns-2 c =
     let p = c .before .before .before .before .loop in
     sym (ap (λ (t : Bool). isStored es (file .sender) (file .recordId) || t) (any-here (stored es) (file .bills) (p .k) (p .inv .1) noBill (omega (arith, s .pre .1 .2 .count, c .before .before .before .loop-test .taken)) (sym (its (c .before)) ∙ c .if2 .taken))
     ∙ or-true (isStored es (file .sender) (file .recordId)))
-
-add-k : tie.Need-add-k Inv-loop μ-loop
-add-k c = search needs
-
-loop-less : tie.Need-loop-less Inv-loop μ-loop
-loop-less c = search needs
 
 loop-again : tie.Need-loop-again Inv-loop μ-loop
 loop-again c =
@@ -109,13 +97,13 @@ has-stored-spec =
     (tie.spec
     Inv-loop
     μ-loop
-    is-stored-requires
+    (λ c κs. search needs)
     returns
     loop-holds
     entry-at-requires
-    is-stored-requires-2
+    (λ c κs. search needs)
     returns-2
-    add-k
-    loop-less
+    (λ c. search needs)
+    (λ c. search needs)
     loop-again
     returns-3)

@@ -23,9 +23,6 @@ entry-at-requires c κs =
     let h = s .pre .1 (eq-eqb _ _ (c .if1 .left)) in
     room-fewer (omega (arith, h)) (s .pre .0)
 
-is-opposite-requires : tie.Need-is-opposite-requires
-is-opposite-requires c κs = search needs
-
 returns-2 : tie.Need-returns-2
 returns-2 c =
     let a = c .before .before .before .before .before .args in
@@ -33,4 +30,4 @@ returns-2 c =
     ∙ sym (ap (λ (t : Bool). t && not (opposite (a .c) (entryAt (now (a .words)) (now (a .amounts)) (a .place)))) (eq-eqb _ _ (c .before .before .if1 .left)))
 
 pub is-unopposed-spec : {M : Type 1} → statement M
-is-unopposed-spec = tie.close (tie.spec returns entry-at-requires is-opposite-requires returns-2)
+is-unopposed-spec = tie.close (tie.spec returns entry-at-requires (λ c κs. search needs) returns-2)

@@ -17,34 +17,13 @@ use Rattle.ledger_tests.proofs.name_cancel.Tie as tie
 returns : tie.Need-returns
 returns c = tried-other _ _ _ _ _ _ (ne-eqb _ _ (c .if1 .taken))
 
-first-named-requires : tie.Need-first-named-requires
-first-named-requires c κs = search needs
-
-same-length : tie.Need-same-length
-same-length c = search needs
-
 returns-2 : tie.Need-returns-2
 returns-2 c =
     let a = c .before .before .before .before .before .before .before .before .before .before .args in
     tried-none _ _ _ _ _ _ (eq-eqb _ _ (c .before .before .before .if1 .left)) (sym (ap (λ (m : ℕ). ltb m (a .used)) (c .before .first-named .ensures)) ∙ le-ltb _ _ (c .if2 .taken))
 
-slice-write-marks : tie.Need-slice-write-marks
-slice-write-marks c = search needs
-
 cast-named : tie.Need-cast-named
 cast-named c = omega (arith, c .before .before .before .before .before .before .before .before .before .before .pre .0 .1 .room .few)
-
-mul-named : tie.Need-mul-named
-mul-named c = search needs
-
-slice-write-named : tie.Need-slice-write-named
-slice-write-named c = search needs
-
-same-length-2 : tie.Need-same-length-2
-same-length-2 c = search needs
-
-same-length-3 : tie.Need-same-length-3
-same-length-3 c = search needs
 
 returns-3 : tie.Need-returns-3
 returns-3 c =
@@ -58,13 +37,13 @@ name-cancel-spec =
     tie.close
     (tie.spec
     returns
-    first-named-requires
-    same-length
+    (λ c κs. search needs)
+    (λ c. search needs)
     returns-2
-    slice-write-marks
+    (λ c. search needs)
     cast-named
-    mul-named
-    slice-write-named
-    same-length-2
-    same-length-3
+    (λ c. search needs)
+    (λ c. search needs)
+    (λ c. search needs)
+    (λ c. search needs)
     returns-3)

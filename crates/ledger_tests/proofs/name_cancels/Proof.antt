@@ -31,9 +31,6 @@ loop-holds c =
 entry-at-requires : tie.Need-entry-at-requires Inv-loop μ-loop
 entry-at-requires c κs = room-fewer (omega (arith, c .loop-test .taken)) (c .before .before .before .before .before .before .before .before .before .before .pre .1 .1 .0 .room)
 
-mul-name-cancel : tie.Need-mul-name-cancel Inv-loop μ-loop
-mul-name-cancel c = search needs
-
 shared-slice-read-name-cancel : tie.Need-shared-slice-read-name-cancel Inv-loop μ-loop
 shared-slice-read-name-cancel c = omega (arith, c .before .before .before .before .before .before .before .before .before .before .before .before .pre .1 .1 .1 .room, c .before .before .loop-test .taken)
 
@@ -42,12 +39,6 @@ name-cancel-requires c κs =
     let s = c .before .before .before .before .before .before .before .before .before .before .before .before .before .before in
     let p = c .before .before .before .before .before .loop in
     (s .pre .0, (omega (arith, p .inv .1, s .pre .1 .0 .0), omega (arith, p .inv .2, s .pre .1 .0 .1, c .before .before .before .before .loop-test .taken)))
-
-same-length : tie.Need-same-length Inv-loop μ-loop
-same-length c = search needs
-
-same-length-2 : tie.Need-same-length-2 Inv-loop μ-loop
-same-length-2 c = search needs
 
 returns : tie.Need-returns Inv-loop μ-loop
 unfolding firstUnnamed
@@ -68,9 +59,6 @@ returns c =
 add-k : tie.Need-add-k Inv-loop μ-loop
 add-k c = omega (arith, c .before .before .before .before .before .before .before .before .before .before .loop-test .taken, c .before .before .before .before .before .before .before .before .before .before .before .before .before .before .before .before .before .before .before .before .fits .n)
 
-loop-less : tie.Need-loop-less Inv-loop μ-loop
-loop-less c = search needs
-
 loop-again : tie.Need-loop-again Inv-loop μ-loop
 loop-again c =
     let s = c .before .before .before .before .before .before .before .before .before .before .before .before .before .before .before .before .before .before .before .before in
@@ -87,12 +75,6 @@ loop-again c =
           (e .ensures ∙ s .pre .1 .1 .0 .each (p .k) inside) _ (s .pre .1 .1 .1 .each (p .k) inside) _ _ (w .result) (w .ensures) (not-false (w .result) (c .if1 .left))
           (omega (arith, s .pre .1 .0 .1, p .inv .2, inside)) (omega (arith, s .pre .1 .0 .0, p .inv .1)),
     )
-
-same-length-3 : tie.Need-same-length-3 Inv-loop μ-loop
-same-length-3 c = search needs
-
-same-length-4 : tie.Need-same-length-4 Inv-loop μ-loop
-same-length-4 c = search needs
 
 returns-2 : tie.Need-returns-2 Inv-loop μ-loop
 unfolding firstUnnamed
@@ -115,15 +97,15 @@ name-cancels-spec =
     μ-loop
     loop-holds
     entry-at-requires
-    mul-name-cancel
+    (λ c. search needs)
     shared-slice-read-name-cancel
     name-cancel-requires
-    same-length
-    same-length-2
+    (λ c. search needs)
+    (λ c. search needs)
     returns
     add-k
-    loop-less
+    (λ c. search needs)
     loop-again
-    same-length-3
-    same-length-4
+    (λ c. search needs)
+    (λ c. search needs)
     returns-2)

@@ -39,9 +39,6 @@ past-102 c = sym (c .before .has-stored .ensures) ∙ c .if1 .left
 has-stored-requires : tie.Need-has-stored-requires
 has-stored-requires c κs = let s = c .before .before .before .before .before in (s .pre .0, (ap (λ (e : Entry). e .sender) (s .pre .1 .2), ap (λ (e : Entry). e .id) (s .pre .1 .2), s .pre .1 .3))
 
-refused-requires : tie.Need-refused-requires
-refused-requires c κs = search needs
-
 returns : tie.Need-returns
 returns c = (line-fails 102 0 (sym (c .before .before .has-stored .ensures) ∙ c .before .if1 .taken) (c .refused .ensures) .first, λ e. absurd (omega (arith, sym e ∙ ap (λ (o : Outcome). o .number) (c .refused .ensures))))
 
@@ -51,14 +48,8 @@ add-if2 c = omega (arith, c .before .before .before .before .before .before .bef
 add-if2-2 : tie.Need-add-if2-2
 add-if2-2 c = omega (arith, c .before .before .before .before .before .before .before .pre .1 .0, c .before .before .before .before .before .before .before .pre .1 .1)
 
-refused-requires-2 : tie.Need-refused-requires-2
-refused-requires-2 c κs = search needs
-
 returns-2 : tie.Need-returns-2
 returns-2 c = let s = c .before .before .before .before .before .before .before .before .before in (line-passes 102 0 (past-102 (c .before .before)) (line-fails 101 0 (lt-ltb (s .args .places) (asked s) (omega (arith, c .before .if2 .taken, long s, s .pre .1 .3 .count))) (c .refused2 .ensures)) .first, λ e. absurd (omega (arith, sym e ∙ ap (λ (o : Outcome). o .number) (c .refused2 .ensures))))
-
-refused-requires-3 : tie.Need-refused-requires-3
-refused-requires-3 c κs = search needs
 
 returns-3 : tie.Need-returns-3
 returns-3 c = let s = c .before .before .before .before .before .before .before .before .before in (line-passes 102 0 (past-102 (c .before .before)) (line-passes 101 0 (le-ltb (s .args .places) (asked s) (omega (arith, c .before .if2 .left, long s, s .pre .1 .3 .count))) (none-fails (c .refused3 .ensures))) .first, λ e. omega (arith, c .before .if2 .left))
@@ -68,11 +59,11 @@ storage-refusal-spec =
     tie.close
     (tie.spec
     has-stored-requires
-    refused-requires
+    (λ c κs. search needs)
     returns
     add-if2
     add-if2-2
-    refused-requires-2
+    (λ c κs. search needs)
     returns-2
-    refused-requires-3
+    (λ c κs. search needs)
     returns-3)

@@ -6,20 +6,8 @@ use Rattle.lent_ledger.specs.BookReplies.{bookReply}
 use Rattle.lent_ledger.proofs.book_reply.Statement.{statement}
 use Rattle.lent_ledger.proofs.book_reply.Tie as tie
 
-book-requires : tie.Need-book-requires
-book-requires c κs = search needs
-
-reply-for-requires : tie.Need-reply-for-requires
-reply-for-requires c κs = search needs
-
-same-length : tie.Need-same-length
-same-length c = search needs
-
-same-length-2 : tie.Need-same-length-2
-same-length-2 c = search needs
-
 returns : tie.Need-returns
 returns c = (c .reply-for .ensures ∙ ap bookReply (c .before .before .before .before .book .ensures .answers), c .before .before .before .before .book .ensures .leaves-run)
 
 pub book-reply-spec : {M : Type 1} → statement M
-book-reply-spec = tie.close (tie.spec book-requires reply-for-requires same-length same-length-2 returns)
+book-reply-spec = tie.close (tie.spec (λ c κs. search needs) (λ c κs. search needs) (λ c. search needs) (λ c. search needs) returns)

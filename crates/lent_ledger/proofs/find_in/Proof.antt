@@ -21,7 +21,7 @@ use ghost.Atoms.{Atoms}
 use contract.Monad.{Fun}
 use contract.Running.{givenOf, tables, tablesOf}
 use types.Kit.{Given, Item, ‵, raw, _⊛_, some, later, ⋆, atRet, _$_, _∵_, !, qed, by, move, keep, drop as loses, use1, use2, use3, split, join, group, pick, learn, fsplit, fjoin, suffices, frame, await, done}
-use types.Run.{look, init, forget, stop, hop, fld, from, load as loads, lit, addr, of-opd, bin, and-then, no-more, assigns, first, branches, skips, exec, calls, land, returns, returns-within, enter, alloc1, alloc0, params1, pass1, pass0, free1, free0}
+use types.Run.{look, store as stores, init, forget, stop, hop, fld, from, load as loads, lit, addr, of-opd, bin, and-then, no-more, assigns, first, branches, skips, exec, calls, land, returns, returns-within, enter, alloc1, alloc0, params1, pass1, pass0, free1, free0}
 use types.Part.{agg, rep, whole, sub, look-in}
 use types.Tokens.{lft-new}
 use sound.WpLaws.{FmC, fmOf, WpFn-mono}

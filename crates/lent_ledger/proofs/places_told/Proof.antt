@@ -18,20 +18,8 @@ returns-2 c = inl refl
 returns-3 : tie.Need-returns-3
 returns-3 c = inl refl
 
-line-ends-requires : tie.Need-line-ends-requires
-line-ends-requires c κs = search needs
-
 returns-4 : tie.Need-returns-4
 returns-4 c = inl refl
-
-add-size-for : tie.Need-add-size-for
-add-size-for c = search needs
-
-add-size-for-2 : tie.Need-add-size-for-2
-add-size-for-2 c = search needs
-
-size-for-requires : tie.Need-size-for-requires
-size-for-requires c κs = search needs
 
 returns-5 : tie.Need-returns-5
 returns-5 c = elim (c .size-for .ensures) [ inl e ↦ inl e | inr h ↦ inr (c .before .before .before .before .if2 .left, h .0, omega (arith, h .1, c .before .before .line-ends .ensures, lines-few (now (c .before .before .before .before .before .before .before .args .file)))) ]
@@ -43,9 +31,9 @@ places-told-spec =
     returns
     returns-2
     returns-3
-    line-ends-requires
+    (λ c κs. search needs)
     returns-4
-    add-size-for
-    add-size-for-2
-    size-for-requires
+    (λ c. search needs)
+    (λ c. search needs)
+    (λ c κs. search needs)
     returns-5)

@@ -12,12 +12,6 @@ use Rattle.lent_ledger.proofs.reply_for.Tie as tie
 abbrev reply : Answer → BookReply
 reply a = bookReply (resultOf a)
 
-enum-known-answer : tie.Need-enum-known-answer
-enum-known-answer c = search needs
-
-enum-known-answer-2 : tie.Need-enum-known-answer-2
-enum-known-answer-2 c = search needs
-
 returns : tie.Need-returns
 returns c = sym (ap reply (c .before .answer .given .1))
 
@@ -25,4 +19,4 @@ returns-2 : tie.Need-returns-2
 returns-2 c = sym (ap reply (c .before .answer2 .given .1))
 
 pub reply-for-spec : {M : Type 1} → statement M
-reply-for-spec = tie.close (tie.spec enum-known-answer enum-known-answer-2 returns returns-2)
+reply-for-spec = tie.close (tie.spec (λ c. search needs) (λ c. search needs) returns returns-2)

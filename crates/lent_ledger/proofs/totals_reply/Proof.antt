@@ -6,14 +6,8 @@ use Rattle.ledger.specs.Replies.{totalsReply}
 use Rattle.lent_ledger.proofs.totals_reply.Statement.{statement}
 use Rattle.lent_ledger.proofs.totals_reply.Tie as tie
 
-totals-of-requires : tie.Need-totals-of-requires
-totals-of-requires c κs = search needs
-
-totals-reply-for-requires : tie.Need-totals-reply-for-requires
-totals-reply-for-requires c κs = search needs
-
 returns : tie.Need-returns
 returns c = c .totals-reply-for .ensures ∙ ap totalsReply (c .before .totals-of .ensures)
 
 pub totals-reply-spec : {M : Type 1} → statement M
-totals-reply-spec = tie.close (tie.spec totals-of-requires totals-reply-for-requires returns)
+totals-reply-spec = tie.close (tie.spec (λ c κs. search needs) (λ c κs. search needs) returns)

@@ -33,30 +33,12 @@ asked c = sym (c .is-unformatted .ensures ∙ ap unformatted (place (c .before .
 loop-holds : tie.Need-loop-holds Inv-loop μ-loop
 loop-holds c = (c .before .before .before .pre .0 .1, c .before .before .before .pre .1)
 
-mul-is-unformatted : tie.Need-mul-is-unformatted Inv-loop μ-loop
-mul-is-unformatted c = search needs
-
-shared-slice-read-is-unformatted : tie.Need-shared-slice-read-is-unformatted Inv-loop μ-loop
-shared-slice-read-is-unformatted c = search needs
-
-mul-is-unformatted-2 : tie.Need-mul-is-unformatted-2 Inv-loop μ-loop
-mul-is-unformatted-2 c = search needs
-
-shared-slice-read-is-unformatted-2 : tie.Need-shared-slice-read-is-unformatted-2 Inv-loop μ-loop
-shared-slice-read-is-unformatted-2 c = search needs
-
 is-unformatted-requires : tie.Need-is-unformatted-requires Inv-loop μ-loop
 is-unformatted-requires c κs = (place (c .before .before) .low, place (c .before .before) .high)
 
 returns : tie.Need-returns Inv-loop μ-loop
 unfolding firstUnformatted
 returns c = first-here unformatted (linesOf (now (c .before .before .before .before .before .before .before .before .before .args .file))) (c .before .before .before .before .before .loop .i) (c .before .before .before .before .before .loop .inv .1) (omega (arith, c .before .before .before .before .before .before .before .before .before .pre .0 .0 .count)) (asked (c .before) ∙ c .if1 .taken)
-
-add-i : tie.Need-add-i Inv-loop μ-loop
-add-i c = search needs
-
-loop-less : tie.Need-loop-less Inv-loop μ-loop
-loop-less c = search needs
 
 loop-again : tie.Need-loop-again Inv-loop μ-loop
 loop-again c = (omega arith, below-more (λ (j : ℕ). unformatted (lineAt (linesOf (now (c .before .before .before .before .before .before .before .before .before .args .file))) j) ≡ false) (c .before .before .before .before .before .loop .i) (c .before .before .before .before .before .loop .inv .1) (asked (c .before) ∙ c .if1 .left))
@@ -72,13 +54,13 @@ first-unformatted-spec =
     Inv-loop
     μ-loop
     loop-holds
-    mul-is-unformatted
-    shared-slice-read-is-unformatted
-    mul-is-unformatted-2
-    shared-slice-read-is-unformatted-2
+    (λ c. search needs)
+    (λ c. search needs)
+    (λ c. search needs)
+    (λ c. search needs)
     is-unformatted-requires
     returns
-    add-i
-    loop-less
+    (λ c. search needs)
+    (λ c. search needs)
     loop-again
     returns-2)

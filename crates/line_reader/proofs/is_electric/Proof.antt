@@ -9,19 +9,10 @@ use Rattle.lists.specs.Written.{written}
 use Rattle.line_reader.proofs.is_electric.Statement.{statement}
 use Rattle.line_reader.proofs.is_electric.Tie as tie
 
-field-among-requires : tie.Need-field-among-requires
-field-among-requires c κs = search needs
-
-slice-aggregate-same-bytes : tie.Need-slice-aggregate-same-bytes
-slice-aggregate-same-bytes c = search needs
-
-same-bytes-requires : tie.Need-same-bytes-requires
-same-bytes-requires c κs = search needs
-
 returns : tie.Need-returns
 returns c = c .same-bytes .ensures ∙ ap (λ (l : List ℕ). sameBytes l (written "EL")) (c .before .before .field-among .ensures)
 
 pub is-electric-spec : {M : Type 1} → statement M
 is-electric-spec =
     tie.close
-    (tie.spec field-among-requires slice-aggregate-same-bytes same-bytes-requires returns)
+    (tie.spec (λ c κs. search needs) (λ c. search needs) (λ c κs. search needs) returns)

@@ -111,18 +111,6 @@ flag c =
 records-holds : tie.Need-records-holds Inv-loop μ-loop Inv-records μ-records
 records-holds c = (omega arith, lines-none _ _, reading-none _ _ _ _ (c .before .before .before .before .before .before .before .pre .1 .0 .0 .words-length), record { none = refl; size = refl; starts = refl; ends = refl })
 
-mul-start : tie.Need-mul-start Inv-loop μ-loop Inv-records μ-records
-mul-start c = search needs
-
-shared-slice-read-start : tie.Need-shared-slice-read-start Inv-loop μ-loop Inv-records μ-records
-shared-slice-read-start c = search needs
-
-mul-e : tie.Need-mul-e Inv-loop μ-loop Inv-records μ-records
-mul-e c = search needs
-
-shared-slice-read-e : tie.Need-shared-slice-read-e Inv-loop μ-loop Inv-records μ-records
-shared-slice-read-e c = search needs
-
 sub-has-unprintable : tie.Need-sub-has-unprintable Inv-loop μ-loop Inv-records μ-records
 sub-has-unprintable c = omega (arith, place (c .before .before) .low, place (c .before .before) .high)
 
@@ -133,41 +121,14 @@ part-has-unprintable-start c = omega (arith, place (c .before .before) .low, pla
 part-has-unprintable-end : tie.Need-part-has-unprintable-end Inv-loop μ-loop Inv-records μ-records
 part-has-unprintable-end c = place (c .before .before) .high
 
-has-unprintable-requires : tie.Need-has-unprintable-requires Inv-loop μ-loop Inv-records μ-records
-has-unprintable-requires c κs = search needs
-
 read-head-requires : tie.Need-read-head-requires Inv-loop μ-loop Inv-records μ-records
 read-head-requires c κs = record { low = place (c .before .before .before .before .before .before) .low; high = place (c .before .before .before .before .before .before) .high; size = c .before .before .before .before .before .before .before .records .inv .3 .size; none = c .before .before .before .before .before .before .before .records .inv .3 .none }
-
-element-write-record : tie.Need-element-write-record Inv-loop μ-loop Inv-records μ-records
-element-write-record c = search needs
-
-element-write-record-2 : tie.Need-element-write-record-2 Inv-loop μ-loop Inv-records μ-records
-element-write-record-2 c = search needs
 
 add-record : tie.Need-add-record Inv-loop μ-loop Inv-records μ-records
 add-record c = omega (arith, head c .first .high)
 
-element-write-record-3 : tie.Need-element-write-record-3 Inv-loop μ-loop Inv-records μ-records
-element-write-record-3 c = search needs
-
-element-write-record-4 : tie.Need-element-write-record-4 Inv-loop μ-loop Inv-records μ-records
-element-write-record-4 c = search needs
-
 add-record-2 : tie.Need-add-record-2 Inv-loop μ-loop Inv-records μ-records
 add-record-2 c = omega (arith, head c .second .high)
-
-element-write-record-5 : tie.Need-element-write-record-5 Inv-loop μ-loop Inv-records μ-records
-element-write-record-5 c = search needs
-
-element-write-record-6 : tie.Need-element-write-record-6 Inv-loop μ-loop Inv-records μ-records
-element-write-record-6 c = search needs
-
-field-count-requires : tie.Need-field-count-requires Inv-loop μ-loop Inv-records μ-records
-field-count-requires c κs = search needs
-
-mul-row : tie.Need-mul-row Inv-loop μ-loop Inv-records μ-records
-mul-row c = search needs
 
 add-a : tie.Need-add-a Inv-loop μ-loop Inv-records μ-records
 add-a c = omega (arith, head (c .before .before) .inside, place (c .before .before .before .before .before .before .before .before .before .before) .high, size (c .before .before .before .before .before .before .before .before .before .before))
@@ -188,9 +149,6 @@ mul-read-field c = omega (arith, known (c .before .before .before .before .befor
 shared-slice-read-read-field :
     tie.Need-shared-slice-read-read-field Inv-loop μ-loop Inv-records μ-records
 shared-slice-read-read-field c = let size : length (now (c .before .before .before .before .before .before .before .before .before .before .before .before .before .before .before .before .before .before .before .before .before .before .before .args .codes)) ≡ 171 = ap length (c .before .before .before .before .before .before .before .before .before .before .before .before .before .before .before .before .before .before .before .before .before .before .before .pre .1 .1 .1) ∙ refl in omega (arith, known (c .before .before .before .before .before .before), few (c .before .before .before .before .before), size)
-
-part-read-field-start : tie.Need-part-read-field-start Inv-loop μ-loop Inv-records μ-records
-part-read-field-start c = search needs
 
 part-read-field-end : tie.Need-part-read-field-end Inv-loop μ-loop Inv-records μ-records
 part-read-field-end c = place (c .before .before .before .before .before .before .before .before .before .before .before .before .before .before) .high
@@ -237,9 +195,6 @@ add-a-3 c = omega (arith, inside (c .before), place (c .before .before .before .
 add-k : tie.Need-add-k Inv-loop μ-loop Inv-records μ-records
 add-k c = omega (arith, few (c .before .before .before .before .before .before .before .before .before))
 
-loop-less : tie.Need-loop-less Inv-loop μ-loop Inv-records μ-records
-loop-less c = search needs
-
 loop-again : tie.Need-loop-again Inv-loop μ-loop Inv-records μ-records
 loop-again c =
     let p = c .before .before .before .before .before .before .before .loop in
@@ -283,32 +238,6 @@ says c =
 is-electric-requires : tie.Need-is-electric-requires Inv-loop μ-loop Inv-records μ-records
 is-electric-requires c κs = record-placed (done (c .before .before .before .before)) (known (c .before .before .before .before .before .before .before .before .before)) (c .before .before .before .before .before .before .before .before .field-count .ensures) (past (c .before .before .before .before))
 
-array-read-retailer : tie.Need-array-read-retailer Inv-loop μ-loop Inv-records μ-records
-array-read-retailer c = search needs
-
-array-read-sender : tie.Need-array-read-sender Inv-loop μ-loop Inv-records μ-records
-array-read-sender c = search needs
-
-array-read-counted : tie.Need-array-read-counted Inv-loop μ-loop Inv-records μ-records
-array-read-counted c = search needs
-
-first-so-far-requires : tie.Need-first-so-far-requires Inv-loop μ-loop Inv-records μ-records
-first-so-far-requires c κs = search needs
-
-slice-aggregate-codes-stand :
-    tie.Need-slice-aggregate-codes-stand Inv-loop μ-loop Inv-records μ-records
-slice-aggregate-codes-stand c = search needs
-
-codes-stand-requires : tie.Need-codes-stand-requires Inv-loop μ-loop Inv-records μ-records
-codes-stand-requires c κs = search needs
-
-first-so-far-requires-2 : tie.Need-first-so-far-requires-2 Inv-loop μ-loop Inv-records μ-records
-first-so-far-requires-2 c κs = search needs
-
-slice-aggregate-store-line :
-    tie.Need-slice-aggregate-store-line Inv-loop μ-loop Inv-records μ-records
-slice-aggregate-store-line c = search needs
-
 store-line-requires : tie.Need-store-line-requires Inv-loop μ-loop Inv-records μ-records
 store-line-requires c κs =
     let start = c .before .before .before .before .before .before .before .before .before .before .before .before .before .before .before .before .before .before .before .before .before .before .before .before .before .before .before .before .before .before .before in
@@ -345,15 +274,6 @@ records-again c =
 wide : (c : tie.At-records Inv-loop μ-loop Inv-records μ-records) → length (c .records .words) ≡ length (now (c .before .before .before .before .before .before .before .before .args .words))
 wide c = c .records .inv .2 .numbers .size ∙ sym (c .before .before .before .before .before .before .before .before .pre .1 .0 .0 .words-length)
 
-same-length : tie.Need-same-length Inv-loop μ-loop Inv-records μ-records
-same-length c = search needs
-
-same-length-2 : tie.Need-same-length-2 Inv-loop μ-loop Inv-records μ-records
-same-length-2 c = search needs
-
-same-length-3 : tie.Need-same-length-3 Inv-loop μ-loop Inv-records μ-records
-same-length-3 c = search needs
-
 returns : tie.Need-returns Inv-loop μ-loop Inv-records μ-records
 unfolding firstUnread
 returns c =
@@ -368,26 +288,8 @@ returns c =
       ),
     )
 
-same-length-4 : tie.Need-same-length-4 Inv-loop μ-loop Inv-records μ-records
-same-length-4 c = search needs
-
-same-length-5 : tie.Need-same-length-5 Inv-loop μ-loop Inv-records μ-records
-same-length-5 c = search needs
-
-same-length-6 : tie.Need-same-length-6 Inv-loop μ-loop Inv-records μ-records
-same-length-6 c = search needs
-
 returns-2 : tie.Need-returns-2 Inv-loop μ-loop Inv-records μ-records
 returns-2 c = fails (c .before .before .before .before .before) (unread-bytes _ (sym (c .before .has-unprintable .ensures) ∙ c .if1 .taken))
-
-same-length-7 : tie.Need-same-length-7 Inv-loop μ-loop Inv-records μ-records
-same-length-7 c = search needs
-
-same-length-8 : tie.Need-same-length-8 Inv-loop μ-loop Inv-records μ-records
-same-length-8 c = search needs
-
-same-length-9 : tie.Need-same-length-9 Inv-loop μ-loop Inv-records μ-records
-same-length-9 c = search needs
 
 returns-3 : tie.Need-returns-3 Inv-loop μ-loop Inv-records μ-records
 returns-3 c = fails (c .before .before .before .before .before .before .before .before) (c .before .read-head .ensures .1 (omega (arith, c .if2 .taken)))
@@ -395,23 +297,11 @@ returns-3 c = fails (c .before .before .before .before .before .before .before .
 same-length-10 : tie.Need-same-length-10 Inv-loop μ-loop Inv-records μ-records
 same-length-10 c = wide (c .before .before .before .before .before .before .before .before .before .before .before .before .before .before)
 
-same-length-11 : tie.Need-same-length-11 Inv-loop μ-loop Inv-records μ-records
-same-length-11 c = search needs
-
-same-length-12 : tie.Need-same-length-12 Inv-loop μ-loop Inv-records μ-records
-same-length-12 c = search needs
-
 returns-4 : tie.Need-returns-4 Inv-loop μ-loop Inv-records μ-records
 returns-4 c = fails (c .before .before .before .before .before .before .before .before .before .before .before .before .before) (unread-count _ (c .before .before .before .before .before .before .read-head .result .record_type) (head (c .before .before .before .before .before) .type) (λ z. omega (arith, z, rest-end (c .before .before .loop .inv .2 .read) (omega (arith, c .if3 .taken)), c .before .loop-test .taken, c .before .before .before .before .field-count .ensures)))
 
 same-length-13 : tie.Need-same-length-13 Inv-loop μ-loop Inv-records μ-records
 same-length-13 c = wide (c .before .before .before .before .before .before .before .before .before .before .before .before .before .before .before .before .before .before)
-
-same-length-14 : tie.Need-same-length-14 Inv-loop μ-loop Inv-records μ-records
-same-length-14 c = search needs
-
-same-length-15 : tie.Need-same-length-15 Inv-loop μ-loop Inv-records μ-records
-same-length-15 c = search needs
 
 returns-5 : tie.Need-returns-5 Inv-loop μ-loop Inv-records μ-records
 returns-5 c =
@@ -427,12 +317,6 @@ returns-5 c =
 same-length-16 : tie.Need-same-length-16 Inv-loop μ-loop Inv-records μ-records
 same-length-16 c = wide (c .before .before .before .before .before .before .before .before .before .before .before .before .before .before)
 
-same-length-17 : tie.Need-same-length-17 Inv-loop μ-loop Inv-records μ-records
-same-length-17 c = search needs
-
-same-length-18 : tie.Need-same-length-18 Inv-loop μ-loop Inv-records μ-records
-same-length-18 c = search needs
-
 returns-6 : tie.Need-returns-6 Inv-loop μ-loop Inv-records μ-records
 returns-6 c = fails (c .before .before .before .before .before .before .before .before .before .before .before .before .before) (unread-count _ (c .before .before .before .before .before .before .read-head .result .record_type) (head (c .before .before .before .before .before) .type) (λ z. omega (arith, z, field-there (c .before .before .loop .inv .2 .read) (omega (arith, c .if7 .taken)) (place (c .before .before .before .before .before .before .before .before .before .before .before .before .before) .high), c .before .loop-test .left, c .before .before .loop .inv .1, c .before .before .before .before .field-count .ensures)))
 
@@ -445,31 +329,31 @@ read-lines-lent-spec =
     Inv-records
     μ-records
     records-holds
-    mul-start
-    shared-slice-read-start
-    mul-e
-    shared-slice-read-e
+    (λ c. search needs)
+    (λ c. search needs)
+    (λ c. search needs)
+    (λ c. search needs)
     sub-has-unprintable
     part-has-unprintable-start
     part-has-unprintable-end
-    has-unprintable-requires
+    (λ c κs. search needs)
     read-head-requires
-    element-write-record
-    element-write-record-2
+    (λ c. search needs)
+    (λ c. search needs)
     add-record
-    element-write-record-3
-    element-write-record-4
+    (λ c. search needs)
+    (λ c. search needs)
     add-record-2
-    element-write-record-5
-    element-write-record-6
-    field-count-requires
-    mul-row
+    (λ c. search needs)
+    (λ c. search needs)
+    (λ c κs. search needs)
+    (λ c. search needs)
     add-a
     loop-holds
     add-read-field
     mul-read-field
     shared-slice-read-read-field
-    part-read-field-start
+    (λ c. search needs)
     part-read-field-end
     read-field-requires
     add-if6
@@ -485,42 +369,42 @@ read-lines-lent-spec =
     add-a-2
     add-a-3
     add-k
-    loop-less
+    (λ c. search needs)
     loop-again
     is-electric-requires
-    array-read-retailer
-    array-read-sender
-    array-read-counted
-    first-so-far-requires
-    slice-aggregate-codes-stand
-    codes-stand-requires
-    first-so-far-requires-2
-    slice-aggregate-store-line
+    (λ c. search needs)
+    (λ c. search needs)
+    (λ c. search needs)
+    (λ c κs. search needs)
+    (λ c. search needs)
+    (λ c κs. search needs)
+    (λ c κs. search needs)
+    (λ c. search needs)
     store-line-requires
     add-i
     records-less
     records-again
-    same-length
-    same-length-2
-    same-length-3
+    (λ c. search needs)
+    (λ c. search needs)
+    (λ c. search needs)
     returns
-    same-length-4
-    same-length-5
-    same-length-6
+    (λ c. search needs)
+    (λ c. search needs)
+    (λ c. search needs)
     returns-2
-    same-length-7
-    same-length-8
-    same-length-9
+    (λ c. search needs)
+    (λ c. search needs)
+    (λ c. search needs)
     returns-3
     same-length-10
-    same-length-11
-    same-length-12
+    (λ c. search needs)
+    (λ c. search needs)
     returns-4
     same-length-13
-    same-length-14
-    same-length-15
+    (λ c. search needs)
+    (λ c. search needs)
     returns-5
     same-length-16
-    same-length-17
-    same-length-18
+    (λ c. search needs)
+    (λ c. search needs)
     returns-6)

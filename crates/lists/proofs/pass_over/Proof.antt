@@ -21,32 +21,8 @@ abbrev μ-loop : tie.MeasureT-loop
 loop-holds : tie.Need-loop-holds Inv-loop μ-loop
 loop-holds c = (search needs, passed-none (isByte (c .before .args .b)) _)
 
-sub-loop : tie.Need-sub-loop Inv-loop μ-loop
-sub-loop c = search needs
-
-add-block-has : tie.Need-add-block-has Inv-loop μ-loop
-add-block-has c = search needs
-
-sub-block-has : tie.Need-sub-block-has Inv-loop μ-loop
-sub-block-has c = search needs
-
-part-block-has-start : tie.Need-part-block-has-start Inv-loop μ-loop
-part-block-has-start c = search needs
-
-part-block-has-end : tie.Need-part-block-has-end Inv-loop μ-loop
-part-block-has-end c = search needs
-
-block-has-requires : tie.Need-block-has-requires Inv-loop μ-loop
-block-has-requires c κs = search needs
-
 returns : tie.Need-returns Inv-loop μ-loop
 returns c = c .before .before .before .before .loop .inv
-
-add-i : tie.Need-add-i Inv-loop μ-loop
-add-i c = search needs
-
-loop-less : tie.Need-loop-less Inv-loop μ-loop
-loop-less c = search needs
 
 loop-again : tie.Need-loop-again Inv-loop μ-loop
 loop-again c =
@@ -71,14 +47,14 @@ pass-over-spec =
     Inv-loop
     μ-loop
     loop-holds
-    sub-loop
-    add-block-has
-    sub-block-has
-    part-block-has-start
-    part-block-has-end
-    block-has-requires
+    (λ c. search needs)
+    (λ c. search needs)
+    (λ c. search needs)
+    (λ c. search needs)
+    (λ c. search needs)
+    (λ c κs. search needs)
     returns
-    add-i
-    loop-less
+    (λ c. search needs)
+    (λ c. search needs)
     loop-again
     returns-2)

@@ -29,12 +29,6 @@ loop-holds c =
     let t = now (c .before .args .t) in
     (omega arith, searched-none (differsAt s t) (length s))
 
-shared-slice-read-if2 : tie.Need-shared-slice-read-if2 Inv-loop μ-loop
-shared-slice-read-if2 c = search needs
-
-shared-slice-read-if2-2 : tie.Need-shared-slice-read-if2-2 Inv-loop μ-loop
-shared-slice-read-if2-2 c = search needs
-
 returns-2 : tie.Need-returns-2 Inv-loop μ-loop
 unfolding sameBytes
 returns-2 c =
@@ -45,12 +39,6 @@ returns-2 c =
       eq-eqb (length s) (length t) (p .before .if1 .left),
       found-some (differsAt s t) (length s) (p .loop .i) (omega arith) (searched-here (differsAt s t) (length s) (p .loop .i) (omega arith) (p .loop .inv .1) (ap not (ne-eqb _ _ (c .if2 .taken)))),
     )
-
-add-i : tie.Need-add-i Inv-loop μ-loop
-add-i c = search needs
-
-loop-less : tie.Need-loop-less Inv-loop μ-loop
-loop-less c = search needs
 
 loop-again : tie.Need-loop-again Inv-loop μ-loop
 loop-again c =
@@ -78,10 +66,10 @@ same-bytes-spec =
     μ-loop
     returns
     loop-holds
-    shared-slice-read-if2
-    shared-slice-read-if2-2
+    (λ c. search needs)
+    (λ c. search needs)
     returns-2
-    add-i
-    loop-less
+    (λ c. search needs)
+    (λ c. search needs)
     loop-again
     returns-3)

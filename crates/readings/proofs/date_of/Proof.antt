@@ -20,29 +20,11 @@ returns c = λ s told. (
 returns-2 : tie.Need-returns-2
 returns-2 c = λ s told. (λ e. date-empty s (c .before .before .before .args .id) (told .0 e) (c .if2 .taken), λ e. date-not s (told .1 e))
 
-sub-date-day : tie.Need-sub-date-day
-sub-date-day c = search needs
-
-date-day-requires : tie.Need-date-day-requires
-date-day-requires c κs = search needs
-
-enum-known-day : tie.Need-enum-known-day
-enum-known-day c = search needs
-
 add-reads : tie.Need-add-reads
 add-reads c =
     let n = c .before .before .before .before .before .before .before .args .id .number - 1 in
     let day = c .before .day .given in
     record { fits = omega (arith, date-bound (n / 10000) (n / 100 % 100) (n % 100) (day .0 .0) (sym (c .before .before .before .date-day .ensures) ∙ day .1)) }
-
-reads-requires : tie.Need-reads-requires
-reads-requires c κs = search needs
-
-enum-told : tie.Need-enum-told
-enum-told c = search needs
-
-misses-requires : tie.Need-misses-requires
-misses-requires c κs = search needs
 
 returns-3 : tie.Need-returns-3
 returns-3 c =
@@ -71,12 +53,12 @@ date-of-spec =
     (tie.spec
     returns
     returns-2
-    sub-date-day
-    date-day-requires
-    enum-known-day
+    (λ c. search needs)
+    (λ c κs. search needs)
+    (λ c. search needs)
     add-reads
-    reads-requires
-    enum-told
-    misses-requires
+    (λ c κs. search needs)
+    (λ c. search needs)
+    (λ c κs. search needs)
     returns-3
     returns-4)

@@ -20,12 +20,6 @@ Inv-loop s value₀ i₀ value i = (i ≤ 8) × (allDigits (take i s) ≡ true) 
 abbrev μ-loop : tie.MeasureT-loop
 μ-loop s value₀ i₀ value i = 8 - i
 
-begins-with-eight-requires : tie.Need-begins-with-eight-requires Inv-loop μ-loop
-begins-with-eight-requires c κs = search needs
-
-no-digits-requires : tie.Need-no-digits-requires Inv-loop μ-loop
-no-digits-requires c κs = search needs
-
 returns : tie.Need-returns Inv-loop μ-loop
 returns c = no-run (now (c .before .before .before .before .args .s)) (c .no-digits .result) (c .no-digits .ensures .0) (c .no-digits .ensures .1)
 
@@ -44,23 +38,11 @@ digit c = c .before .before .before .begins-with-eight .ensures (not-false _ (c 
 mul-value : tie.Need-mul-value Inv-loop μ-loop
 mul-value c = omega (arith, small (c .before))
 
-shared-slice-read-wide : tie.Need-shared-slice-read-wide Inv-loop μ-loop
-shared-slice-read-wide c = search needs
-
-wide-requires : tie.Need-wide-requires Inv-loop μ-loop
-wide-requires c κs = search needs
-
 sub-value : tie.Need-sub-value Inv-loop μ-loop
 sub-value c = omega (arith, digit (c .before .before) .0, c .wide .ensures)
 
 add-value : tie.Need-add-value Inv-loop μ-loop
 add-value c = omega (arith, small (c .before .before .before), digit (c .before .before) .1, c .wide .ensures)
-
-add-i : tie.Need-add-i Inv-loop μ-loop
-add-i c = search needs
-
-loop-less : tie.Need-loop-less Inv-loop μ-loop
-loop-less c = search needs
 
 loop-again : tie.Need-loop-again Inv-loop μ-loop
 loop-again c =
@@ -92,16 +74,16 @@ eight-digits-spec =
     (tie.spec
     Inv-loop
     μ-loop
-    begins-with-eight-requires
-    no-digits-requires
+    (λ c κs. search needs)
+    (λ c κs. search needs)
     returns
     loop-holds
     mul-value
-    shared-slice-read-wide
-    wide-requires
+    (λ c. search needs)
+    (λ c κs. search needs)
     sub-value
     add-value
-    add-i
-    loop-less
+    (λ c. search needs)
+    (λ c. search needs)
     loop-again
     returns-2)

@@ -19,9 +19,6 @@ use Rattle.readings.proofs.id_of.Tie as tie
 ends-at-requires : tie.Need-ends-at-requires
 ends-at-requires c κs = c .before .pre .read .inside
 
-misses-requires : tie.Need-misses-requires
-misses-requires c κs = search needs
-
 returns : tie.Need-returns
 returns c =
     let start = c .before .before .before .before in
@@ -29,9 +26,6 @@ returns c =
       λ e. let z : _≡_ {A = ℕ} 0 1 = cc in absurd (omega arith),
       λ e. told-not _ (λ f. c .before .before .ends-at .ensures .1 (not-true _ (c .before .if1 .taken)) (subst (λ (k : ℕ). Ends s k) (sym (id-ends s (start .args .run) (start .pre) f)) (end-ends s))),
     )
-
-reads-requires : tie.Need-reads-requires
-reads-requires c κs = search needs
 
 ended : (c : tie.Else1) → Ends (now (c .before .before .before .args .s)) (c .before .before .before .args .run .len)
 ended c = c .before .ends-at .ensures .0 (not-false _ (c .if1 .left))
@@ -50,9 +44,6 @@ add-reads c =
     let start = c .before .before .before .before .before in
     record { fits = omega (arith, id-bound (now (start .args .s)) (start .args .run) (start .pre .read)) }
 
-reads-requires-2 : tie.Need-reads-requires-2
-reads-requires-2 c κs = search needs
-
 returns-3 : tie.Need-returns-3
 returns-3 c =
     let start = c .before .before .before .before .before .before in (
@@ -67,10 +58,10 @@ id-of-spec =
     tie.close
     (tie.spec
     ends-at-requires
-    misses-requires
+    (λ c κs. search needs)
     returns
-    reads-requires
+    (λ c κs. search needs)
     returns-2
     add-reads
-    reads-requires-2
+    (λ c κs. search needs)
     returns-3)

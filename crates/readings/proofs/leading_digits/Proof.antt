@@ -6,14 +6,8 @@ use borrow.Author.Needs.{needs}
 use Rattle.readings.proofs.leading_digits.Statement.{statement}
 use Rattle.readings.proofs.leading_digits.Tie as tie
 
-no-digits-requires : tie.Need-no-digits-requires
-no-digits-requires c κs = search needs
-
 more-digits-requires : tie.Need-more-digits-requires
 more-digits-requires c κs = no-run (now (c .before .before .args .s)) (c .no-digits .result) (c .no-digits .ensures .0) (c .no-digits .ensures .1)
 
-returns : tie.Need-returns
-returns c = search needs
-
 pub leading-digits-spec : {M : Type 1} → statement M
-leading-digits-spec = tie.close (tie.spec no-digits-requires more-digits-requires returns)
+leading-digits-spec = tie.close (tie.spec (λ c κs. search needs) more-digits-requires (λ c. search needs))

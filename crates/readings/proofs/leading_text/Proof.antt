@@ -27,9 +27,6 @@ loop-holds c =
     (λ w. (omega arith, omega arith, omega arith, lit< tt, zero-le, sym packed-none))
     (c .if1 .came)
 
-shared-slice-read-b : tie.Need-shared-slice-read-b Inv-loop μ-loop
-shared-slice-read-b c = search needs
-
 returns : tie.Need-returns Inv-loop μ-loop
 returns c =
     let p = c .before .before .before .loop in
@@ -41,19 +38,10 @@ mul-value c =
     let p = c .before .before .before .loop in
     omega (arith, byte-room (p .len) (p .inv .3) (omega arith))
 
-wide-requires : tie.Need-wide-requires Inv-loop μ-loop
-wide-requires c κs = search needs
-
 add-value : tie.Need-add-value Inv-loop μ-loop
 add-value c =
     let p = c .before .before .before .before .loop in
     omega (arith, byte-room (p .len) (p .inv .3) (omega arith), c .before .before .shared-slice-known2 .given (p .len), c .wide .ensures)
-
-add-len : tie.Need-add-len Inv-loop μ-loop
-add-len c = search needs
-
-loop-less : tie.Need-loop-less Inv-loop μ-loop
-loop-less c = search needs
 
 loop-again : tie.Need-loop-again Inv-loop μ-loop
 loop-again c =
@@ -86,12 +74,12 @@ leading-text-spec =
     Inv-loop
     μ-loop
     loop-holds
-    shared-slice-read-b
+    (λ c. search needs)
     returns
     mul-value
-    wide-requires
+    (λ c κs. search needs)
     add-value
-    add-len
-    loop-less
+    (λ c. search needs)
+    (λ c. search needs)
     loop-again
     returns-2)

@@ -30,15 +30,6 @@ loop-holds c =
       run .value,
     )
 
-shared-slice-read-wide : tie.Need-shared-slice-read-wide Inv-loop μ-loop
-shared-slice-read-wide c = search needs
-
-wide-requires : tie.Need-wide-requires Inv-loop μ-loop
-wide-requires c κs = search needs
-
-wrapping-sub-u64-requires : tie.Need-wrapping-sub-u64-requires Inv-loop μ-loop
-wrapping-sub-u64-requires c κs = search needs
-
 returns : tie.Need-returns Inv-loop μ-loop
 returns c =
     let p = c .before .before .before .before .before in
@@ -60,12 +51,6 @@ mul-value c = omega (arith, small (c .before .before .before .before .before))
 
 add-value : tie.Need-add-value Inv-loop μ-loop
 add-value c = omega (arith, small (c .before .before .before .before .before))
-
-add-len : tie.Need-add-len Inv-loop μ-loop
-add-len c = search needs
-
-loop-less : tie.Need-loop-less Inv-loop μ-loop
-loop-less c = search needs
 
 loop-again : tie.Need-loop-again Inv-loop μ-loop
 loop-again c =
@@ -93,13 +78,13 @@ more-digits-spec =
     Inv-loop
     μ-loop
     loop-holds
-    shared-slice-read-wide
-    wide-requires
-    wrapping-sub-u64-requires
+    (λ c. search needs)
+    (λ c κs. search needs)
+    (λ c κs. search needs)
     returns
     mul-value
     add-value
-    add-len
-    loop-less
+    (λ c. search needs)
+    (λ c. search needs)
     loop-again
     returns-2)

@@ -12,11 +12,8 @@ use Rattle.readings.proofs.next_byte.Tie as tie
 returns : tie.Need-returns
 returns c = sym (List·getD-eq-default (now (c .before .args .s)) 44 (c .if1 .taken))
 
-shared-slice-read-result : tie.Need-shared-slice-read-result
-shared-slice-read-result c = search needs
-
 returns-2 : tie.Need-returns-2
 returns-2 c = let a = c .before .before .args in same-byte (now (a .s)) (a .k) 0 44 (omega arith)
 
 pub next-byte-spec : {M : Type 1} → statement M
-next-byte-spec = tie.close (tie.spec returns shared-slice-read-result returns-2)
+next-byte-spec = tie.close (tie.spec returns (λ c. search needs) returns-2)

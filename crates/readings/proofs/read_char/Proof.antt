@@ -17,15 +17,6 @@ use native.Mathlib.Omega.{arith}
 use Rattle.readings.proofs.read_char.Statement.{statement}
 use Rattle.readings.proofs.read_char.Tie as tie
 
-leading-text-requires : tie.Need-leading-text-requires
-leading-text-requires c κs = search needs
-
-ends-at-requires : tie.Need-ends-at-requires
-ends-at-requires c κs = search needs
-
-misses-requires : tie.Need-misses-requires
-misses-requires c κs = search needs
-
 returns : tie.Need-returns
 returns c =
     let p = c .before .before .before in
@@ -40,9 +31,6 @@ returns c =
           (⊎-elim (λ none. omega (arith, field-length s, none)) (λ same. omega (arith, field-length s, same, start .pre)) (char-length (leadingField s) (start .args .width) fits)))),
     )
 
-reads-requires : tie.Need-reads-requires
-reads-requires c κs = search needs
-
 ended : (c : tie.Else1) → Ends (now (c .before .before .before .before .args .s)) (c .before .before .leading-text .result .len)
 ended c = c .before .ends-at .ensures .0 (not-false _ (c .if1 .left))
 
@@ -55,9 +43,6 @@ returns-2 c =
       λ e. let z : _≡_ {A = ℕ} 0 1 = cc in absurd (omega arith),
     )
 
-reads-requires-2 : tie.Need-reads-requires-2
-reads-requires-2 c κs = search needs
-
 returns-3 : tie.Need-returns-3
 returns-3 c =
     let p = c .before .before .before .before .before in
@@ -67,9 +52,6 @@ returns-3 c =
           (c .reads2 .ensures .1) (c .reads2 .ensures .2) (c .before .if3 .taken),
       λ e. let z : _≡_ {A = ℕ} 0 1 = cc in absurd (omega arith),
     )
-
-misses-requires-2 : tie.Need-misses-requires-2
-misses-requires-2 c κs = search needs
 
 returns-4 : tie.Need-returns-4
 returns-4 c =
@@ -88,13 +70,13 @@ pub read-char-spec : {M : Type 1} → statement M
 read-char-spec =
     tie.close
     (tie.spec
-    leading-text-requires
-    ends-at-requires
-    misses-requires
+    (λ c κs. search needs)
+    (λ c κs. search needs)
+    (λ c κs. search needs)
     returns
-    reads-requires
+    (λ c κs. search needs)
     returns-2
-    reads-requires-2
+    (λ c κs. search needs)
     returns-3
-    misses-requires-2
+    (λ c κs. search needs)
     returns-4)

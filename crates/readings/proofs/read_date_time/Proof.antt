@@ -17,20 +17,11 @@ use native.Mathlib.Omega.{arith}
 use Rattle.readings.proofs.read_date_time.Statement.{statement}
 use Rattle.readings.proofs.read_date_time.Tie as tie
 
-find-requires : tie.Need-find-requires
-find-requires c κs = search needs
-
 inside : (c : tie.After-find) → c .find .result ≤ length (now (c .before .before .before .args .s))
 inside c = omega (arith, first-le (isByte 44) (now (c .before .before .before .args .s)), c .find .ensures)
 
 slice-aggregate-is-date-time : tie.Need-slice-aggregate-is-date-time
 slice-aggregate-is-date-time c = sym (length-take-le (c .before .find .result) (now (c .before .before .before .before .args .s)) (inside (c .before)))
-
-is-date-time-requires : tie.Need-is-date-time-requires
-is-date-time-requires c κs = search needs
-
-reads-requires : tie.Need-reads-requires
-reads-requires c κs = search needs
 
 returns : tie.Need-returns
 unfolding Says
@@ -41,9 +32,6 @@ returns c =
           (sym (c .before .before .is-date-time .ensures) ∙ c .before .if1 .taken) tt (c .reads .ensures .1) (c .reads .ensures .2),
       λ e. let z : _≡_ {A = ℕ} 0 1 = cc in absurd (omega arith),
     )
-
-misses-requires : tie.Need-misses-requires
-misses-requires c κs = search needs
 
 returns-2 : tie.Need-returns-2
 returns-2 c =
@@ -57,10 +45,10 @@ pub read-date-time-spec : {M : Type 1} → statement M
 read-date-time-spec =
     tie.close
     (tie.spec
-    find-requires
+    (λ c κs. search needs)
     slice-aggregate-is-date-time
-    is-date-time-requires
-    reads-requires
+    (λ c κs. search needs)
+    (λ c κs. search needs)
     returns
-    misses-requires
+    (λ c κs. search needs)
     returns-2)

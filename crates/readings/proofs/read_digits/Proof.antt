@@ -17,9 +17,6 @@ use native.Mathlib.Omega.{arith}
 use Rattle.readings.proofs.read_digits.Statement.{statement}
 use Rattle.readings.proofs.read_digits.Tie as tie
 
-read-long-id-requires : tie.Need-read-long-id-requires
-read-long-id-requires c κs = search needs
-
 -- what is no ID is none of fixed length
 not-fixed : (c : tie.After-read-long-id) → let args = c .before .before .args in c .read-long-id .result .fits ≡ false → fitsType (Digits (args .width)) (leadingField (now (args .s))) ≡ false
 not-fixed c e =
@@ -38,9 +35,6 @@ returns-2 c =
     let p = c .before .before in
     let args = p .before .before .args in
     (λ e. fixed-read (now (args .s)) (p .read-long-id .result) (p .read-long-id .ensures .0 e) (omega arith) (args .width) (c .if2 .taken), not-fixed p)
-
-misses-requires : tie.Need-misses-requires
-misses-requires c κs = search needs
 
 returns-3 : tie.Need-returns-3
 returns-3 c =
@@ -61,4 +55,4 @@ returns-3 c =
 
 pub read-digits-spec : {M : Type 1} → statement M
 read-digits-spec =
-    tie.close (tie.spec read-long-id-requires returns returns-2 misses-requires returns-3)
+    tie.close (tie.spec (λ c κs. search needs) returns returns-2 (λ c κs. search needs) returns-3)

@@ -11,9 +11,6 @@ use borrow.Author.Needs.{needs}
 use Rattle.readings.proofs.read_field.Statement.{statement}
 use Rattle.readings.proofs.read_field.Tie as tie
 
-read-fixed-requires : tie.Need-read-fixed-requires
-read-fixed-requires c κs = search needs
-
 read-number-requires : tie.Need-read-number-requires
 unfolding typeOfCode isNarrow
 read-number-requires c κs =
@@ -21,20 +18,11 @@ read-number-requires c κs =
     let narrow = both-true (leb (start .args .code / 256 % 256 - start .args .code % 256) 15) (leb (start .args .code % 256) 15) (rw (c .match .keys2) at (start .pre .1)) in
     (leb-true _ 15 (narrow .0), leb-true _ 15 (narrow .1))
 
-read-date-time-requires : tie.Need-read-date-time-requires
-read-date-time-requires c κs = search needs
-
 read-char-requires : tie.Need-read-char-requires
 unfolding typeOfCode isNarrow
 read-char-requires c κs =
     let start = c .before .before .before in
     leb-true (start .args .code / 256 % 256) 4 (rw (c .match .keys4) at (start .pre .1))
-
-read-varchar-requires : tie.Need-read-varchar-requires
-read-varchar-requires c κs = search needs
-
-read-id-requires : tie.Need-read-id-requires
-read-id-requires c κs = search needs
 
 returns : tie.Need-returns
 unfolding typeOfCode
@@ -74,12 +62,12 @@ pub read-field-spec : {M : Type 1} → statement M
 read-field-spec =
     tie.close
     (tie.spec
-    read-fixed-requires
+    (λ c κs. search needs)
     read-number-requires
-    read-date-time-requires
+    (λ c κs. search needs)
     read-char-requires
-    read-varchar-requires
-    read-id-requires
+    (λ c κs. search needs)
+    (λ c κs. search needs)
     returns
     returns-2
     returns-3

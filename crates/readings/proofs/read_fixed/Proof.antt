@@ -10,18 +10,12 @@ use borrow.Author.Needs.{needs}
 use Rattle.readings.proofs.read_fixed.Statement.{statement}
 use Rattle.readings.proofs.read_fixed.Tie as tie
 
-read-digits-requires : tie.Need-read-digits-requires
-read-digits-requires c κs = search needs
-
 -- the ID that was read is of just so many digits
 digits-read : (c : tie.After-read-digits) → let a = c .before .before .before .before .args in FieldTold (Digits (cond (a .is-date) 8 (a .width))) (now (a .s)) (c .read-digits .result)
 digits-read c =
     let a = c .before .before .before .before .args in
     let many : c .before .if1 .digits ≡ cond (a .is-date) 8 (a .width) = ⊎-elim (λ w. w .1 ∙ sym (rw (w .0 .taken))) (λ w. w .1 ∙ sym (rw (w .0 .left))) (c .before .if1 .came) in
     rw many at (c .read-digits .ensures)
-
-date-of-requires : tie.Need-date-of-requires
-date-of-requires c κs = search needs
 
 returns : tie.Need-returns
 returns c = rw (c .before .if2 .taken) (c .date-of .ensures (now (c .before .before .before .before .before .before .args .s)) (rw (c .before .if2 .taken) at (digits-read (c .before .before))))
@@ -30,4 +24,4 @@ returns-2 : tie.Need-returns-2
 returns-2 c = rw (c .if2 .left) (rw (c .if2 .left) at (digits-read (c .before)))
 
 pub read-fixed-spec : {M : Type 1} → statement M
-read-fixed-spec = tie.close (tie.spec read-digits-requires date-of-requires returns returns-2)
+read-fixed-spec = tie.close (tie.spec (λ c κs. search needs) (λ c κs. search needs) returns returns-2)

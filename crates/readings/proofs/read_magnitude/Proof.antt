@@ -10,12 +10,6 @@ use native.Mathlib.Omega.{arith}
 use Rattle.readings.proofs.read_magnitude.Statement.{statement}
 use Rattle.readings.proofs.read_magnitude.Tie as tie
 
-leading-digits-requires : tie.Need-leading-digits-requires
-leading-digits-requires c κs = search needs
-
-misses-requires : tie.Need-misses-requires
-misses-requires c κs = search needs
-
 returns : tie.Need-returns
 returns c =
     let start = c .before .before .before .before in
@@ -26,9 +20,6 @@ returns c =
           told-not _
           (λ u. omega (arith, whole-some (now (a .s)) (run .result .len) (a .whole) (a .scale) (run .ensures .read .inside) (run .ensures .read .digits) (run-longest (now (a .s)) (run .result) (run .ensures)) (start .pre .0) u, c .before .if1 .taken)),
     )
-
-misses-requires-2 : tie.Need-misses-requires-2
-misses-requires-2 c κs = search needs
 
 returns-2 : tie.Need-returns-2
 returns-2 c =
@@ -57,17 +48,14 @@ read-places-requires c κs =
       start .pre .1,
     )
 
-returns-3 : tie.Need-returns-3
-returns-3 c = search needs
-
 pub read-magnitude-spec : {M : Type 1} → statement M
 read-magnitude-spec =
     tie.close
     (tie.spec
-    leading-digits-requires
-    misses-requires
+    (λ c κs. search needs)
+    (λ c κs. search needs)
     returns
-    misses-requires-2
+    (λ c κs. search needs)
     returns-2
     read-places-requires
-    returns-3)
+    (λ c. search needs))

@@ -21,12 +21,6 @@ use native.Mathlib.Omega.{arith}
 use Rattle.readings.proofs.read_number.Statement.{statement}
 use Rattle.readings.proofs.read_number.Tie as tie
 
-next-byte-requires : tie.Need-next-byte-requires
-next-byte-requires c κs = search needs
-
-reads-requires : tie.Need-reads-requires
-reads-requires c κs = search needs
-
 returns : tie.Need-returns
 returns c = (
   λ e.
@@ -38,9 +32,6 @@ returns c = (
 -- a byte of the field stands first
 other : (c : tie.Else1) → getD (now (c .before .before .before .args .s)) 0 44 ≡ 44 → ⊥
 other c z = c .if1 .left (c .before .next-byte .ensures ∙ z)
-
-misses-requires : tie.Need-misses-requires
-misses-requires c κs = search needs
 
 returns-2 : tie.Need-returns-2
 returns-2 c =
@@ -62,15 +53,6 @@ sub-read-magnitude c = omega (arith, minus-inside (c .before))
 part-read-magnitude-start : tie.Need-part-read-magnitude-start
 part-read-magnitude-start c = omega (arith, minus-inside (c .before))
 
-part-read-magnitude-end : tie.Need-part-read-magnitude-end
-part-read-magnitude-end c = search needs
-
-sub-read-magnitude-2 : tie.Need-sub-read-magnitude-2
-sub-read-magnitude-2 c = search needs
-
-read-magnitude-requires : tie.Need-read-magnitude-requires
-read-magnitude-requires c κs = search needs
-
 -- what stands after the minus
 size : (c : tie.After-read-magnitude) → let a = c .before .before .before .before .before .before .before .before .args in
     MagnitudeTold (a .precision - a .scale) (a .scale) (drop (c .before .before .before .if3 .minus) (now (a .s))) (c .read-magnitude .result)
@@ -79,9 +61,6 @@ size c = rw part-rest at (c .read-magnitude .ensures)
 size-read : (c : tie.Else4) → let a = c .before .before .before .before .before .before .before .before .before .args in
     MagnitudeRead (a .precision - a .scale) (a .scale) (drop (c .before .before .before .before .if3 .minus) (now (a .s))) (c .before .read-magnitude .result)
 size-read c = size (c .before) .0 (not-false _ (c .if4 .left))
-
-misses-requires-2 : tie.Need-misses-requires-2
-misses-requires-2 c κs = search needs
 
 returns-3 : tie.Need-returns-3
 returns-3 c =
@@ -105,9 +84,6 @@ mul-reads c = omega (arith, size-read c .small)
 add-reads-2 : tie.Need-add-reads-2
 add-reads-2 c = omega (arith, size-read (c .before) .small, minus-inside (c .before .before .before .before .before) .0)
 
-reads-requires-2 : tie.Need-reads-requires-2
-reads-requires-2 c κs = search needs
-
 returns-4 : tie.Need-returns-4
 returns-4 c =
     let p = c .before .before .before .before .before .before in
@@ -122,20 +98,20 @@ pub read-number-spec : {M : Type 1} → statement M
 read-number-spec =
     tie.close
     (tie.spec
-    next-byte-requires
-    reads-requires
+    (λ c κs. search needs)
+    (λ c κs. search needs)
     returns
-    misses-requires
+    (λ c κs. search needs)
     returns-2
     sub-read-magnitude
     part-read-magnitude-start
-    part-read-magnitude-end
-    sub-read-magnitude-2
-    read-magnitude-requires
-    misses-requires-2
+    (λ c. search needs)
+    (λ c. search needs)
+    (λ c κs. search needs)
+    (λ c κs. search needs)
     returns-3
     add-reads
     mul-reads
     add-reads-2
-    reads-requires-2
+    (λ c κs. search needs)
     returns-4)

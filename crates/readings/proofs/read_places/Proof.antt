@@ -17,14 +17,8 @@ use native.Mathlib.Omega.{arith}
 use Rattle.readings.proofs.read_places.Statement.{statement}
 use Rattle.readings.proofs.read_places.Tie as tie
 
-next-byte-requires : tie.Need-next-byte-requires
-next-byte-requires c κs = search needs
-
 scaled-requires : tie.Need-scaled-requires
 scaled-requires c κs = let start = c .before .before .before in (whole-below _ _ _ _ (start .pre .0), omega arith, omega arith)
-
-reads-requires : tie.Need-reads-requires
-reads-requires c κs = search needs
 
 returns : tie.Need-returns
 returns c = (
@@ -35,9 +29,6 @@ returns c = (
       whole-read (now (a .s)) (a .w) (a .p) (a .whole) (start .pre .0) (a .scale) _ (next-ends (now (a .s)) (a .p) (start .pre .0 .inside) (sym (c .before .before .before .next-byte .ensures) ∙ c .before .before .if1 .taken)) (c .reads .ensures .1) (λ h. c .reads .ensures .2 ∙ read .0 h) (rw (c .reads .ensures .2) (read .1)),
   λ e. let z : _≡_ {A = ℕ} 0 1 = cc in absurd (omega arith),
 )
-
-misses-requires : tie.Need-misses-requires
-misses-requires c κs = search needs
 
 returns-2 : tie.Need-returns-2
 returns-2 c =
@@ -61,20 +52,11 @@ dot c =
     let other : getD (now (a .s)) (a .p) 44 ≡ 44 → ⊥ = λ z. c .before .if1 .left (e ∙ z) in
     (next-inside (now (a .s)) (a .p) other, next-is (now (a .s)) (a .p) other ∙ sym e ∙ c .if2 .left)
 
-add-leading-digits : tie.Need-add-leading-digits
-add-leading-digits c = search needs
-
 sub-leading-digits : tie.Need-sub-leading-digits
 sub-leading-digits c = omega (arith, dot c .0)
 
 part-leading-digits-start : tie.Need-part-leading-digits-start
 part-leading-digits-start c = omega (arith, dot c .0)
-
-part-leading-digits-end : tie.Need-part-leading-digits-end
-part-leading-digits-end c = search needs
-
-leading-digits-requires : tie.Need-leading-digits-requires
-leading-digits-requires c κs = search needs
 
 -- the digits after it
 after : (c : tie.After-leading-digits) → let a = c .before .before .before .before .before .before .args in AllRead (drop (a .p + 1) (now (a .s))) (c .leading-digits .result)
@@ -90,29 +72,11 @@ found c u =
     let point = dot (c .before .before) in
     places-are (now (a .s)) (a .p) (a .whole) (a .scale) (w .inside) (w .digits) (w .longest) (start .pre .1) u (c .leading-digits .result) (point .0) (point .1) (after c) (start .pre .2)
 
-misses-requires-2 : tie.Need-misses-requires-2
-misses-requires-2 c κs = search needs
-
 returns-3 : tie.Need-returns-3
 returns-3 c = (λ e. let z : _≡_ {A = ℕ} 0 1 = cc in absurd (omega arith), λ e. told-not _ (λ u. omega (arith, found (c .before .before) u .0, c .before .if3 .taken)))
 
-misses-requires-3 : tie.Need-misses-requires-3
-misses-requires-3 c κs = search needs
-
 returns-4 : tie.Need-returns-4
 returns-4 c = (λ e. let z : _≡_ {A = ℕ} 0 1 = cc in absurd (omega arith), λ e. told-not _ (λ u. omega (arith, found (c .before .before .before) u .1, c .before .if4 .taken)))
-
-add-ends-at : tie.Need-add-ends-at
-add-ends-at c = search needs
-
-add-ends-at-2 : tie.Need-add-ends-at-2
-add-ends-at-2 c = search needs
-
-ends-at-requires : tie.Need-ends-at-requires
-ends-at-requires c κs = search needs
-
-misses-requires-4 : tie.Need-misses-requires-4
-misses-requires-4 c κs = search needs
 
 returns-5 : tie.Need-returns-5
 returns-5 c =
@@ -121,12 +85,6 @@ returns-5 c =
       λ e. let z : _≡_ {A = ℕ} 0 1 = cc in absurd (omega arith),
       λ e. told-not _ (λ u. c .before .before .ends-at .ensures .1 (not-true _ (c .before .if5 .taken)) (subst (λ (k : ℕ). Ends s k) (sym (found p u .2)) (end-ends s))),
     )
-
-add-reads : tie.Need-add-reads
-add-reads c = search needs
-
-add-reads-2 : tie.Need-add-reads-2
-add-reads-2 c = search needs
 
 scaled-requires-2 : tie.Need-scaled-requires-2
 scaled-requires-2 c κs =
@@ -137,9 +95,6 @@ scaled-requires-2 c κs =
       places-below (now (a .s)) (a .w) (a .p) (a .whole) (start .pre .0) (c .before .before .before .before .leading-digits .result) (point .0) (point .1) (after (c .before .before .before .before) .read),
       omega arith,
     )
-
-reads-requires-2 : tie.Need-reads-requires-2
-reads-requires-2 c κs = search needs
 
 returns-6 : tie.Need-returns-6
 returns-6 c = (
@@ -156,28 +111,28 @@ pub read-places-spec : {M : Type 1} → statement M
 read-places-spec =
     tie.close
     (tie.spec
-    next-byte-requires
+    (λ c κs. search needs)
     scaled-requires
-    reads-requires
+    (λ c κs. search needs)
     returns
-    misses-requires
+    (λ c κs. search needs)
     returns-2
-    add-leading-digits
+    (λ c. search needs)
     sub-leading-digits
     part-leading-digits-start
-    part-leading-digits-end
-    leading-digits-requires
-    misses-requires-2
+    (λ c. search needs)
+    (λ c κs. search needs)
+    (λ c κs. search needs)
     returns-3
-    misses-requires-3
+    (λ c κs. search needs)
     returns-4
-    add-ends-at
-    add-ends-at-2
-    ends-at-requires
-    misses-requires-4
+    (λ c. search needs)
+    (λ c. search needs)
+    (λ c κs. search needs)
+    (λ c κs. search needs)
     returns-5
-    add-reads
-    add-reads-2
+    (λ c. search needs)
+    (λ c. search needs)
     scaled-requires-2
-    reads-requires-2
+    (λ c κs. search needs)
     returns-6)

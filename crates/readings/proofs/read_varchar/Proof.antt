@@ -13,15 +13,6 @@ use native.Mathlib.Omega.{arith}
 use Rattle.readings.proofs.read_varchar.Statement.{statement}
 use Rattle.readings.proofs.read_varchar.Tie as tie
 
-leading-text-requires : tie.Need-leading-text-requires
-leading-text-requires c κs = search needs
-
-ends-at-requires : tie.Need-ends-at-requires
-ends-at-requires c κs = search needs
-
-reads-requires : tie.Need-reads-requires
-reads-requires c κs = search needs
-
 returns : tie.Need-returns
 returns c =
     let p = c .before .before .before .before in
@@ -32,9 +23,6 @@ returns c =
       λ e. let z : _≡_ {A = ℕ} 0 1 = cc in absurd (omega arith),
     )
 
-misses-requires : tie.Need-misses-requires
-misses-requires c κs = search needs
-
 returns-2 : tie.Need-returns-2
 returns-2 c =
     let p = c .before .before .before .before in
@@ -44,9 +32,6 @@ returns-2 c =
       λ e. let z : _≡_ {A = ℕ} 0 1 = cc in absurd (omega arith),
       λ e. told-not _ (λ fits. omega (arith, varchar-length (leadingField s) (start .args .width) fits, field-length s, ends, c .before .if2 .left)),
     )
-
-misses-requires-2 : tie.Need-misses-requires-2
-misses-requires-2 c κs = search needs
 
 returns-3 : tie.Need-returns-3
 returns-3 c =
@@ -61,12 +46,6 @@ returns-3 c =
           (text-ends s (p .leading-text .result) (p .leading-text .ensures) (omega (arith, varchar-length (leadingField s) (start .args .width) fits, field-length s, c .before .if3 .taken)))),
     )
 
-find-requires : tie.Need-find-requires
-find-requires c κs = search needs
-
-reads-requires-2 : tie.Need-reads-requires-2
-reads-requires-2 c κs = search needs
-
 returns-4 : tie.Need-returns-4
 returns-4 c =
     let args = c .before .before .before .before .before .before .before .before .args in (
@@ -75,9 +54,6 @@ returns-4 c =
           (c .reads2 .ensures .1),
       λ e. let z : _≡_ {A = ℕ} 0 1 = cc in absurd (omega arith),
     )
-
-misses-requires-3 : tie.Need-misses-requires-3
-misses-requires-3 c κs = search needs
 
 returns-5 : tie.Need-returns-5
 returns-5 c =
@@ -91,16 +67,16 @@ pub read-varchar-spec : {M : Type 1} → statement M
 read-varchar-spec =
     tie.close
     (tie.spec
-    leading-text-requires
-    ends-at-requires
-    reads-requires
+    (λ c κs. search needs)
+    (λ c κs. search needs)
+    (λ c κs. search needs)
     returns
-    misses-requires
+    (λ c κs. search needs)
     returns-2
-    misses-requires-2
+    (λ c κs. search needs)
     returns-3
-    find-requires
-    reads-requires-2
+    (λ c κs. search needs)
+    (λ c κs. search needs)
     returns-4
-    misses-requires-3
+    (λ c κs. search needs)
     returns-5)

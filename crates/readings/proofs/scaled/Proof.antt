@@ -8,26 +8,11 @@ use native.Mathlib.Omega.{arith}
 use Rattle.readings.proofs.scaled.Statement.{statement}
 use Rattle.readings.proofs.scaled.Tie as tie
 
-returns : tie.Need-returns
-returns c = search needs
-
-returns-2 : tie.Need-returns-2
-returns-2 c = search needs
-
-ten-to-requires : tie.Need-ten-to-requires
-ten-to-requires c κs = search needs
-
 mul-result : tie.Need-mul-result
 mul-result c =
     let start = c .before .before .before in
     let a = start .args in
     rw (c .ten-to .ensures) (omega (arith, ten-room (a .whole + a .scale) (whole-alone (a .w) (a .whole) (a .scale) (start .pre .0)) (omega arith)))
-
-sub-ten-to : tie.Need-sub-ten-to
-sub-ten-to c = search needs
-
-ten-to-requires-2 : tie.Need-ten-to-requires-2
-ten-to-requires-2 c κs = search needs
 
 -- the digits after the point, moved up to the places
 moved : (c : tie.After-ten-to2) → c .before .before .before .before .args .f * c .ten-to2 .result < 10 ^ c .before .before .before .before .args .scale
@@ -55,12 +40,12 @@ pub scaled-spec : {M : Type 1} → statement M
 scaled-spec =
     tie.close
     (tie.spec
-    returns
-    returns-2
-    ten-to-requires
+    (λ c. search needs)
+    (λ c. search needs)
+    (λ c κs. search needs)
     mul-result
-    sub-ten-to
-    ten-to-requires-2
+    (λ c. search needs)
+    (λ c κs. search needs)
     mul-result-2
     add-result
     returns-3)

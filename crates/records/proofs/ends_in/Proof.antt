@@ -21,19 +21,10 @@ abbrev μ-loop : tie.MeasureT-loop
 loop-holds : tie.Need-loop-holds Inv-loop μ-loop
 loop-holds c = omega arith
 
-shared-slice-read-if1 : tie.Need-shared-slice-read-if1 Inv-loop μ-loop
-shared-slice-read-if1 c = search needs
-
 add-count : tie.Need-add-count Inv-loop μ-loop
 add-count c =
     let s = now (c .before .before .before .before .args .s) in
     omega (arith, ends-more s (c .before .before .before .loop .i) (c .before .before .loop-test .taken) (c .if1 .taken), ends-few s)
-
-add-i : tie.Need-add-i Inv-loop μ-loop
-add-i c = search needs
-
-loop-less : tie.Need-loop-less Inv-loop μ-loop
-loop-less c = search needs
 
 loop-again : tie.Need-loop-again Inv-loop μ-loop
 loop-again c =
@@ -48,4 +39,4 @@ returns c = omega (arith, ends-none (now (c .before .before .args .s)) (c .befor
 pub ends-in-spec : {M : Type 1} → statement M
 ends-in-spec =
     tie.close
-    (tie.spec Inv-loop μ-loop loop-holds shared-slice-read-if1 add-count add-i loop-less loop-again returns)
+    (tie.spec Inv-loop μ-loop loop-holds (λ c. search needs) add-count (λ c. search needs) (λ c. search needs) loop-again returns)

@@ -14,9 +14,6 @@ place c =
     let a = c .before .before .args in
     rw (c .place-among .ensures .0, c .place-among .ensures .1) (place-among (c .before .before .pre .1) (a .k))
 
-place-among-requires : tie.Need-place-among-requires
-place-among-requires c κs = search needs
-
 sub-result : tie.Need-sub-result
 sub-result c = place c .low
 
@@ -31,4 +28,4 @@ returns c = place (c .before) .same
 
 pub field-among-spec : {M : Type 1} → statement M
 field-among-spec =
-    tie.close (tie.spec place-among-requires sub-result part-result-start part-result-end returns)
+    tie.close (tie.spec (λ c κs. search needs) sub-result part-result-start part-result-end returns)

@@ -5,15 +5,9 @@ use borrow.Author.Needs.{needs}
 use Rattle.records.proofs.field_at.Statement.{statement}
 use Rattle.records.proofs.field_at.Tie as tie
 
-record-at-requires : tie.Need-record-at-requires
-record-at-requires c κs = search needs
-
-place-among-requires : tie.Need-place-among-requires
-place-among-requires c κs = search needs
-
 returns : tie.Need-returns
 returns c =
     rw (c .place-among .ensures .0, c .place-among .ensures .1, ← among-is) (place-among (c .before .before .before .before .before .record-at .ensures .placed) (c .before .before .before .before .before .before .before .args .k))
 
 pub field-at-spec : {M : Type 1} → statement M
-field-at-spec = tie.close (tie.spec record-at-requires place-among-requires returns)
+field-at-spec = tie.close (tie.spec (λ c κs. search needs) (λ c κs. search needs) returns)

@@ -32,35 +32,11 @@ more c =
     let f = now (c .before .before .before .before .before .args .file) in
     omega (arith, going-count (p .loop .inv .2), lines-some (drop (p .loop .a) f) (rw length-drop (omega arith)))
 
-same-length : tie.Need-same-length Inv-loop μ-loop
-same-length c = search needs
-
-same-length-2 : tie.Need-same-length-2 Inv-loop μ-loop
-same-length-2 c = search needs
-
 returns : tie.Need-returns Inv-loop μ-loop
 returns c = inl (omega (arith, more (c .before)))
 
-same-length-3 : tie.Need-same-length-3 Inv-loop μ-loop
-same-length-3 c = search needs
-
-same-length-4 : tie.Need-same-length-4 Inv-loop μ-loop
-same-length-4 c = search needs
-
 returns-2 : tie.Need-returns-2 Inv-loop μ-loop
 returns-2 c = inr (omega (arith, more (c .before .before)))
-
-sub-find-far : tie.Need-sub-find-far Inv-loop μ-loop
-sub-find-far c = search needs
-
-part-find-far-start : tie.Need-part-find-far-start Inv-loop μ-loop
-part-find-far-start c = search needs
-
-part-find-far-end : tie.Need-part-find-far-end Inv-loop μ-loop
-part-find-far-end c = search needs
-
-find-far-requires : tie.Need-find-far-requires Inv-loop μ-loop
-find-far-requires c κs = search needs
 
 found : (c : tie.After-find-far Inv-loop μ-loop) → c .find-far .result ≡ firstWhere (isByte 10) (drop (c .before .before .before .before .before .loop .a) (now (c .before .before .before .before .before .before .before .before .before .args .file)))
 found c = simp part-rest at (c .find-far .ensures)
@@ -76,26 +52,11 @@ add-e c = omega (arith, near c)
 line-end-requires : tie.Need-line-end-requires Inv-loop μ-loop
 line-end-requires c κs = omega (arith, near c)
 
-mul-starts : tie.Need-mul-starts Inv-loop μ-loop
-mul-starts c = search needs
-
-slice-write-starts : tie.Need-slice-write-starts Inv-loop μ-loop
-slice-write-starts c = search needs
-
-mul-ends : tie.Need-mul-ends Inv-loop μ-loop
-mul-ends c = search needs
-
 slice-write-ends : tie.Need-slice-write-ends Inv-loop μ-loop
 slice-write-ends c = omega arith
 
-add-n : tie.Need-add-n Inv-loop μ-loop
-add-n c = search needs
-
 add-a : tie.Need-add-a Inv-loop μ-loop
 add-a c = omega (arith, near (c .before))
-
-loop-less : tie.Need-loop-less Inv-loop μ-loop
-loop-less c = search needs
 
 loop-again : tie.Need-loop-again Inv-loop μ-loop
 loop-again c =
@@ -106,12 +67,6 @@ loop-again c =
       going-more (p .loop .inv .2) (p .loop .a) (c .line-end .result) _ (omega arith) (omega arith) (c .line-end .ensures .low) (omega (arith, near (c .before)))
           (lines-step f (p .loop .a) (p .loop .a + c .before .find-far .result) (c .line-end .result) (omega arith) (ap (λ (k : ℕ). p .loop .a + k) (found (c .before))) (c .line-end .ensures)),
     )
-
-same-length-5 : tie.Need-same-length-5 Inv-loop μ-loop
-same-length-5 c = search needs
-
-same-length-6 : tie.Need-same-length-6 Inv-loop μ-loop
-same-length-6 c = search needs
 
 returns-3 : tie.Need-returns-3 Inv-loop μ-loop
 returns-3 c =
@@ -126,26 +81,26 @@ find-lines-spec =
     Inv-loop
     μ-loop
     loop-holds
-    same-length
-    same-length-2
+    (λ c. search needs)
+    (λ c. search needs)
     returns
-    same-length-3
-    same-length-4
+    (λ c. search needs)
+    (λ c. search needs)
     returns-2
-    sub-find-far
-    part-find-far-start
-    part-find-far-end
-    find-far-requires
+    (λ c. search needs)
+    (λ c. search needs)
+    (λ c. search needs)
+    (λ c κs. search needs)
     add-e
     line-end-requires
-    mul-starts
-    slice-write-starts
-    mul-ends
+    (λ c. search needs)
+    (λ c. search needs)
+    (λ c. search needs)
     slice-write-ends
-    add-n
+    (λ c. search needs)
     add-a
-    loop-less
+    (λ c. search needs)
     loop-again
-    same-length-5
-    same-length-6
+    (λ c. search needs)
+    (λ c. search needs)
     returns-3)

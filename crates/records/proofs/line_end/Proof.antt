@@ -9,15 +9,6 @@ use native.Mathlib.Omega.{arith}
 use Rattle.records.proofs.line_end.Statement.{statement}
 use Rattle.records.proofs.line_end.Tie as tie
 
-sub-if3 : tie.Need-sub-if3
-sub-if3 c = search needs
-
-shared-slice-read-if3 : tie.Need-shared-slice-read-if3
-shared-slice-read-if3 c = search needs
-
-sub-result : tie.Need-sub-result
-sub-result c = search needs
-
 returns : tie.Need-returns
 returns c =
     let a = c .before .before .before .before .args in
@@ -53,4 +44,4 @@ returns-4 c =
 pub line-end-spec : {M : Type 1} → statement M
 line-end-spec =
     tie.close
-    (tie.spec sub-if3 shared-slice-read-if3 sub-result returns returns-2 returns-3 returns-4)
+    (tie.spec (λ c. search needs) (λ c. search needs) (λ c. search needs) returns returns-2 returns-3 returns-4)

@@ -22,21 +22,6 @@ abbrev μ-loop : tie.MeasureT-loop
 loop-holds : tie.Need-loop-holds Inv-loop μ-loop
 loop-holds c = omega arith
 
-sub-loop : tie.Need-sub-loop Inv-loop μ-loop
-sub-loop c = search needs
-
-add-ends-in : tie.Need-add-ends-in Inv-loop μ-loop
-add-ends-in c = search needs
-
-sub-ends-in : tie.Need-sub-ends-in Inv-loop μ-loop
-sub-ends-in c = search needs
-
-part-ends-in-start : tie.Need-part-ends-in-start Inv-loop μ-loop
-part-ends-in-start c = search needs
-
-part-ends-in-end : tie.Need-part-ends-in-end Inv-loop μ-loop
-part-ends-in-end c = search needs
-
 ends-in-requires : tie.Need-ends-in-requires Inv-loop μ-loop
 ends-in-requires c κs =
     let a = c .before .before .loop .a in
@@ -48,37 +33,16 @@ more c =
     let a = c .before .before .before .loop .a in
     omega (arith, ends-part (now (c .before .before .before .before .before .args .file)) a (a + 32768) (omega arith))
 
-cast-count : tie.Need-cast-count Inv-loop μ-loop
-cast-count c = search needs
-
 add-count : tie.Need-add-count Inv-loop μ-loop
 add-count c = omega (arith, more c, ends-few (now (c .before .before .before .before .before .args .file)))
 
-add-a : tie.Need-add-a Inv-loop μ-loop
-add-a c = search needs
-
-loop-less : tie.Need-loop-less Inv-loop μ-loop
-loop-less c = search needs
-
 loop-again : tie.Need-loop-again Inv-loop μ-loop
 loop-again c = (omega arith, more c)
-
-sub-ends-in-2 : tie.Need-sub-ends-in-2 Inv-loop μ-loop
-sub-ends-in-2 c = search needs
-
-part-ends-in-start-2 : tie.Need-part-ends-in-start-2 Inv-loop μ-loop
-part-ends-in-start-2 c = search needs
-
-part-ends-in-end-2 : tie.Need-part-ends-in-end-2 Inv-loop μ-loop
-part-ends-in-end-2 c = search needs
 
 ends-in-requires-2 : tie.Need-ends-in-requires-2 Inv-loop μ-loop
 ends-in-requires-2 c κs =
     let f = now (c .before .before .before .before .args .file) in
     omega (arith, part-length f (c .before .before .loop .a) (length f) (le-refl _))
-
-cast-result : tie.Need-cast-result Inv-loop μ-loop
-cast-result c = search needs
 
 -- the last block
 all : (c : tie.After-ends-in2 Inv-loop μ-loop) → c .before .before .before .loop .count + c .ends-in2 .result ≡ lineEnds (now (c .before .before .before .before .before .args .file))
@@ -99,21 +63,21 @@ line-ends-spec =
     Inv-loop
     μ-loop
     loop-holds
-    sub-loop
-    add-ends-in
-    sub-ends-in
-    part-ends-in-start
-    part-ends-in-end
+    (λ c. search needs)
+    (λ c. search needs)
+    (λ c. search needs)
+    (λ c. search needs)
+    (λ c. search needs)
     ends-in-requires
-    cast-count
+    (λ c. search needs)
     add-count
-    add-a
-    loop-less
+    (λ c. search needs)
+    (λ c. search needs)
     loop-again
-    sub-ends-in-2
-    part-ends-in-start-2
-    part-ends-in-end-2
+    (λ c. search needs)
+    (λ c. search needs)
+    (λ c. search needs)
     ends-in-requires-2
-    cast-result
+    (λ c. search needs)
     add-result
     returns)

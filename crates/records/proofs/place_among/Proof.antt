@@ -18,24 +18,6 @@ returns-2 c =
     let a = c .before .before .args in
     (sym (number-none (a .count) (now (a .starts)) (a .k) (inr (c .if2 .taken))), sym (number-none (a .count) (now (a .ends)) (a .k) (inr (c .if2 .taken))))
 
-sub-t6 : tie.Need-sub-t6
-sub-t6 c = search needs
-
-mul-t7 : tie.Need-mul-t7
-mul-t7 c = search needs
-
-element-copy-out-t10 : tie.Need-element-copy-out-t10
-element-copy-out-t10 c = search needs
-
-sub-t11 : tie.Need-sub-t11
-sub-t11 c = search needs
-
-mul-t12 : tie.Need-mul-t12
-mul-t12 c = search needs
-
-element-copy-out-t15 : tie.Need-element-copy-out-t15
-element-copy-out-t15 c = search needs
-
 returns-3 : tie.Need-returns-3
 returns-3 c =
     let a = c .before .before .before .before .args in
@@ -49,10 +31,10 @@ place-among-spec =
     (tie.spec
     returns
     returns-2
-    sub-t6
-    mul-t7
-    element-copy-out-t10
-    sub-t11
-    mul-t12
-    element-copy-out-t15
+    (λ c. search needs)
+    (λ c. search needs)
+    (λ c. search needs)
+    (λ c. search needs)
+    (λ c. search needs)
+    (λ c. search needs)
     returns-3)

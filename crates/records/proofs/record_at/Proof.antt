@@ -29,18 +29,6 @@ abbrev μ-loop : tie.MeasureT-loop
 loop-holds : tie.Need-loop-holds Inv-loop μ-loop
 loop-holds c = (omega arith, omega arith, refl, refl, going-none _ _ _ _)
 
-sub-find : tie.Need-sub-find Inv-loop μ-loop
-sub-find c = search needs
-
-part-find-start : tie.Need-part-find-start Inv-loop μ-loop
-part-find-start c = search needs
-
-part-find-end : tie.Need-part-find-end Inv-loop μ-loop
-part-find-end c = search needs
-
-find-requires : tie.Need-find-requires Inv-loop μ-loop
-find-requires c κs = search needs
-
 near : (c : tie.After-find Inv-loop μ-loop) → c .before .before .before .loop .a + c .find .result ≤ c .before .before .before .before .before .args .end
 near c =
     let a = c .before .before .before .before .before .args in
@@ -49,27 +37,6 @@ near c =
 
 add-e : tie.Need-add-e Inv-loop μ-loop
 add-e c = omega (arith, near c)
-
-mul-starts : tie.Need-mul-starts Inv-loop μ-loop
-mul-starts c = search needs
-
-array-write-starts : tie.Need-array-write-starts Inv-loop μ-loop
-array-write-starts c = search needs
-
-mul-ends : tie.Need-mul-ends Inv-loop μ-loop
-mul-ends c = search needs
-
-array-write-ends : tie.Need-array-write-ends Inv-loop μ-loop
-array-write-ends c = search needs
-
-add-n : tie.Need-add-n Inv-loop μ-loop
-add-n c = search needs
-
-array-read-third : tie.Need-array-read-third Inv-loop μ-loop
-array-read-third c = search needs
-
-array-read-third-2 : tie.Need-array-read-third-2 Inv-loop μ-loop
-array-read-third-2 c = search needs
 
 -- the last field has its place
 full : (c : tie.Then1 Inv-loop μ-loop) → Placed (now (c .before .before .before .before .before .before .args .file)) (c .before .before .before .before .loop .n + 1)
@@ -99,9 +66,6 @@ returns c =
 
 add-a : tie.Need-add-a Inv-loop μ-loop
 add-a c = omega (arith, near (c .before))
-
-loop-less : tie.Need-loop-less Inv-loop μ-loop
-loop-less c = search needs
 
 loop-again : tie.Need-loop-again Inv-loop μ-loop
 loop-again c =
@@ -139,21 +103,21 @@ record-at-spec =
     Inv-loop
     μ-loop
     loop-holds
-    sub-find
-    part-find-start
-    part-find-end
-    find-requires
+    (λ c. search needs)
+    (λ c. search needs)
+    (λ c. search needs)
+    (λ c κs. search needs)
     add-e
-    mul-starts
-    array-write-starts
-    mul-ends
-    array-write-ends
-    add-n
-    array-read-third
-    array-read-third-2
+    (λ c. search needs)
+    (λ c. search needs)
+    (λ c. search needs)
+    (λ c. search needs)
+    (λ c. search needs)
+    (λ c. search needs)
+    (λ c. search needs)
     third-requires
     returns
     add-a
-    loop-less
+    (λ c. search needs)
     loop-again
     returns-2)

@@ -18,13 +18,10 @@ part-type-named-start c = c .before .before .pre (c .if1 .left) .0
 part-type-named-end : tie.Need-part-type-named-end
 part-type-named-end c = c .before .before .pre (c .if1 .left) .1
 
-type-named-requires : tie.Need-type-named-requires
-type-named-requires c κs = search needs
-
 returns-2 : tie.Need-returns-2
 returns-2 c = simp (lt-ltb 2 _ (c .before .before .if1 .left)) (c .type-named .ensures)
 
 pub third-spec : {M : Type 1} → statement M
 third-spec =
     tie.close
-    (tie.spec returns sub-type-named part-type-named-start part-type-named-end type-named-requires returns-2)
+    (tie.spec returns sub-type-named part-type-named-start part-type-named-end (λ c κs. search needs) returns-2)

@@ -13,12 +13,6 @@ use Rattle.refusals.proofs.code_of.Tie as tie
 returns : tie.Need-returns
 returns c = sym (code-above _ (c .if1 .taken))
 
-mul-code : tie.Need-mul-code
-mul-code c = search needs
-
-array-read-code : tie.Need-array-read-code
-array-read-code c = search needs
-
 returns-2 : tie.Need-returns-2
 unfolding tabulate codeIn codeOf codeTable
 returns-2 c = codes-zero (c .before .before .args .test) (omega arith) (c .if2 .taken)
@@ -28,4 +22,4 @@ unfolding tabulate codeIn codeOf codeTable
 returns-3 c = codes-some (c .before .before .args .test) (omega arith) (c .if2 .left)
 
 pub code-of-spec : {M : Type 1} → statement M
-code-of-spec = tie.close (tie.spec returns mul-code array-read-code returns-2 returns-3)
+code-of-spec = tie.close (tie.spec returns (λ c. search needs) (λ c. search needs) returns-2 returns-3)

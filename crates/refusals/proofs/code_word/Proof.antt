@@ -5,18 +5,6 @@ use native.Mathlib.Omega.{arith}
 use Rattle.refusals.proofs.code_word.Statement.{statement}
 use Rattle.refusals.proofs.code_word.Tie as tie
 
-code-of-requires : tie.Need-code-of-requires
-code-of-requires c κs = search needs
-
-enum-known-code : tie.Need-enum-known-code
-enum-known-code c = search needs
-
-enum-told : tie.Need-enum-told
-enum-told c = search needs
-
-mul-result : tie.Need-mul-result
-mul-result c = search needs
-
 returns : tie.Need-returns
 returns c = simp (← c .before .before .before .code-of .ensures, c .before .code .given .1) (omega arith)
 
@@ -25,4 +13,4 @@ returns-2 c = simp (← c .before .before .code-of .ensures, c .enum-told .given
 
 pub code-word-spec : {M : Type 1} → statement M
 code-word-spec =
-    tie.close (tie.spec code-of-requires enum-known-code enum-told mul-result returns returns-2)
+    tie.close (tie.spec (λ c κs. search needs) (λ c. search needs) (λ c. search needs) (λ c. search needs) returns returns-2)

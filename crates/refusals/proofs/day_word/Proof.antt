@@ -5,18 +5,6 @@ use native.Mathlib.Omega.{arith}
 use Rattle.refusals.proofs.day_word.Statement.{statement}
 use Rattle.refusals.proofs.day_word.Tie as tie
 
-day-of-requires : tie.Need-day-of-requires
-day-of-requires c κs = search needs
-
-enum-known-day : tie.Need-enum-known-day
-enum-known-day c = search needs
-
-enum-told : tie.Need-enum-told
-enum-told c = search needs
-
-mul-result : tie.Need-mul-result
-mul-result c = search needs
-
 returns : tie.Need-returns
 returns c = simp (← c .before .before .before .day-of .ensures, c .before .day .given .1) (omega arith)
 
@@ -25,4 +13,4 @@ returns-2 c = simp (← c .before .before .day-of .ensures, c .enum-told .given 
 
 pub day-word-spec : {M : Type 1} → statement M
 day-word-spec =
-    tie.close (tie.spec day-of-requires enum-known-day enum-told mul-result returns returns-2)
+    tie.close (tie.spec (λ c κs. search needs) (λ c. search needs) (λ c. search needs) (λ c. search needs) returns returns-2)

@@ -14,12 +14,6 @@ use native.Mathlib.Omega.{arith}
 use Rattle.sound_ledgers.proofs.cancelled_place.Statement.{statement}
 use Rattle.sound_ledgers.proofs.cancelled_place.Tie as tie
 
-key-requires : tie.Need-key-requires
-key-requires c κs = search needs
-
-place-of-requires : tie.Need-place-of-requires
-place-of-requires c κs = search needs
-
 returns : tie.Need-returns
 returns c =
     let s = c .before .before .before .before .before .before in
@@ -28,12 +22,6 @@ returns c =
     let place = named-place es (a .used) (s .pre .1 .0 .1) (now (a .keys)) (s .pre .1 .0 .0) (a .i) in
     let found = c .before .place-of .ensures ∙ ap (firstPlace (now (a .keys)) (a .used)) (c .before .before .key .ensures) in
     (λ h. absurd (omega arith), λ _ p pair. omega (arith, place p _ (a .cancel) (s .pre .0 .1) (s .pre .1 .1 .0) found pair, pair .earlier, c .if1 .taken))
-
-entry-in-use-requires : tie.Need-entry-in-use-requires
-entry-in-use-requires c κs = search needs
-
-is-named-requires : tie.Need-is-named-requires
-is-named-requires c κs = search needs
 
 returns-2 : tie.Need-returns-2
 returns-2 c =
@@ -49,9 +37,6 @@ returns-2 c =
           let same = place p _ (a .cancel) (s .pre .0 .1) (s .pre .1 .1 .0) found pair in
           true≢false (sym (cancels-named es (a .i) p pair) ∙ (λ t. isNamed (sym (s .pre .1 .1 .0) t) (sym (e .ensures ∙ ap (entryOf es) same) t)) ∙ fails),
     )
-
-is-opposite-requires : tie.Need-is-opposite-requires
-is-opposite-requires c κs = search needs
 
 returns-3 : tie.Need-returns-3
 returns-3 c =
@@ -82,12 +67,12 @@ pub cancelled-place-spec : {M : Type 1} → statement M
 cancelled-place-spec =
     tie.close
     (tie.spec
-    key-requires
-    place-of-requires
+    (λ c κs. search needs)
+    (λ c κs. search needs)
     returns
-    entry-in-use-requires
-    is-named-requires
+    (λ c κs. search needs)
+    (λ c κs. search needs)
     returns-2
-    is-opposite-requires
+    (λ c κs. search needs)
     returns-3
     returns-4)

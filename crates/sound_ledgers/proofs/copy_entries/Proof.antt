@@ -38,24 +38,6 @@ loop-holds c =
     let es = entriesOf (now (a .words)) (now (a .amounts)) (a .used) in
     (omega arith, refl, refl, refl, refl, (keyed-none es (now (a .keys)), below-none _, gathering-none (liveAt es) (firstDay es) (lastDay es) (now (a .firsts)) (now (a .lasts))))
 
-entry-in-use-requires : tie.Need-entry-in-use-requires Inv-loop μ-loop
-entry-in-use-requires c κs = search needs
-
-entry-fits-requires : tie.Need-entry-fits-requires Inv-loop μ-loop
-entry-fits-requires c κs = search needs
-
-same-length : tie.Need-same-length Inv-loop μ-loop
-same-length c = search needs
-
-same-length-2 : tie.Need-same-length-2 Inv-loop μ-loop
-same-length-2 c = search needs
-
-same-length-3 : tie.Need-same-length-3 Inv-loop μ-loop
-same-length-3 c = search needs
-
-same-length-4 : tie.Need-same-length-4 Inv-loop μ-loop
-same-length-4 c = search needs
-
 returns : tie.Need-returns Inv-loop μ-loop
 returns c =
     let e = c .before .before .entry-in-use in (
@@ -63,29 +45,11 @@ returns c =
       λ _. misfit _ _ _ (c .before .before .before .loop-test .taken) (ap entryFits (sym (e .ensures)) ∙ sym (c .before .entry-fits .ensures) ∙ not-true _ (c .if1 .taken)),
     )
 
-key-requires : tie.Need-key-requires Inv-loop μ-loop
-key-requires c κs = search needs
-
-mul-keys : tie.Need-mul-keys Inv-loop μ-loop
-mul-keys c = search needs
-
-slice-write-keys : tie.Need-slice-write-keys Inv-loop μ-loop
-slice-write-keys c = search needs
-
 cast-states : tie.Need-cast-states Inv-loop μ-loop
 cast-states c = let fits : EntryFits (c .before .before .before .before .entry-in-use .result) = entry-means (c .before .before .before .before .entry-in-use .result) .0 (sym (c .before .before .before .entry-fits .ensures) ∙ not-false _ (c .before .before .if1 .left)) in omega (arith, fits .state)
 
-slice-write-states : tie.Need-slice-write-states Inv-loop μ-loop
-slice-write-states c = search needs
-
-gather-requires : tie.Need-gather-requires Inv-loop μ-loop
-gather-requires c κs = search needs
-
 add-i : tie.Need-add-i Inv-loop μ-loop
 add-i c = omega (arith, c .before .before .before .before .before .before .before .before .before .before .before .before .loop-test .taken, c .before .before .before .before .before .before .before .before .before .before .before .before .before .before .before .before .before .before .before .fits)
-
-loop-less : tie.Need-loop-less Inv-loop μ-loop
-loop-less c = search needs
 
 loop-again : tie.Need-loop-again Inv-loop μ-loop
 loop-again c =
@@ -112,18 +76,6 @@ loop-again c =
       ),
     )
 
-same-length-5 : tie.Need-same-length-5 Inv-loop μ-loop
-same-length-5 c = search needs
-
-same-length-6 : tie.Need-same-length-6 Inv-loop μ-loop
-same-length-6 c = search needs
-
-same-length-7 : tie.Need-same-length-7 Inv-loop μ-loop
-same-length-7 c = search needs
-
-same-length-8 : tie.Need-same-length-8 Inv-loop μ-loop
-same-length-8 c = search needs
-
 returns-2 : tie.Need-returns-2 Inv-loop μ-loop
 returns-2 c =
     let p = c .before .loop in
@@ -139,24 +91,24 @@ copy-entries-spec =
     Inv-loop
     μ-loop
     loop-holds
-    entry-in-use-requires
-    entry-fits-requires
-    same-length
-    same-length-2
-    same-length-3
-    same-length-4
+    (λ c κs. search needs)
+    (λ c κs. search needs)
+    (λ c. search needs)
+    (λ c. search needs)
+    (λ c. search needs)
+    (λ c. search needs)
     returns
-    key-requires
-    mul-keys
-    slice-write-keys
+    (λ c κs. search needs)
+    (λ c. search needs)
+    (λ c. search needs)
     cast-states
-    slice-write-states
-    gather-requires
+    (λ c. search needs)
+    (λ c κs. search needs)
     add-i
-    loop-less
+    (λ c. search needs)
     loop-again
-    same-length-5
-    same-length-6
-    same-length-7
-    same-length-8
+    (λ c. search needs)
+    (λ c. search needs)
+    (λ c. search needs)
+    (λ c. search needs)
     returns-2)

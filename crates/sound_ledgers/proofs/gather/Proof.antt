@@ -9,36 +9,6 @@ use borrow.Author.Needs.{needs}
 use Rattle.sound_ledgers.proofs.gather.Statement.{statement}
 use Rattle.sound_ledgers.proofs.gather.Tie as tie
 
-day-number-requires : tie.Need-day-number-requires
-day-number-requires c κs = search needs
-
-mul-firsts : tie.Need-mul-firsts
-mul-firsts c = search needs
-
-slice-write-firsts : tie.Need-slice-write-firsts
-slice-write-firsts c = search needs
-
-day-number-requires-2 : tie.Need-day-number-requires-2
-day-number-requires-2 c κs = search needs
-
-mul-lasts : tie.Need-mul-lasts
-mul-lasts c = search needs
-
-slice-write-lasts : tie.Need-slice-write-lasts
-slice-write-lasts c = search needs
-
-is-live-period-requires : tie.Need-is-live-period-requires
-is-live-period-requires c κs = search needs
-
-add-result : tie.Need-add-result
-add-result c = search needs
-
-same-length : tie.Need-same-length
-same-length c = search needs
-
-same-length-2 : tie.Need-same-length-2
-same-length-2 c = search needs
-
 returns : tie.Need-returns
 returns c =
     let a = c .before .before .before .before .before .before .args in (
@@ -48,12 +18,6 @@ returns c =
         ap (λ (live : Bool). cond live (a .count + 1) (a .count)) (sym (c .if1 .taken) ∙ c .before .is-live-period .ensures),
       ),
     )
-
-same-length-3 : tie.Need-same-length-3
-same-length-3 c = search needs
-
-same-length-4 : tie.Need-same-length-4
-same-length-4 c = search needs
 
 returns-2 : tie.Need-returns-2
 returns-2 c =
@@ -69,17 +33,17 @@ pub gather-spec : {M : Type 1} → statement M
 gather-spec =
     tie.close
     (tie.spec
-    day-number-requires
-    mul-firsts
-    slice-write-firsts
-    day-number-requires-2
-    mul-lasts
-    slice-write-lasts
-    is-live-period-requires
-    add-result
-    same-length
-    same-length-2
+    (λ c κs. search needs)
+    (λ c. search needs)
+    (λ c. search needs)
+    (λ c κs. search needs)
+    (λ c. search needs)
+    (λ c. search needs)
+    (λ c κs. search needs)
+    (λ c. search needs)
+    (λ c. search needs)
+    (λ c. search needs)
     returns
-    same-length-3
-    same-length-4
+    (λ c. search needs)
+    (λ c. search needs)
     returns-2)

@@ -14,9 +14,6 @@ use native.Mathlib.Omega.{arith}
 use Rattle.sound_ledgers.proofs.is_sound.Statement.{statement}
 use Rattle.sound_ledgers.proofs.is_sound.Tie as tie
 
-sizes-fit-requires : tie.Need-sizes-fit-requires
-sizes-fit-requires c κs = search needs
-
 returns : tie.Need-returns
 returns c = let a = c .before .before .before .args in sym (sizes-amiss (now (a .words)) (now (a .amounts)) (a .places) (a .used) (sym (c .before .sizes-fit .ensures) ∙ not-true _ (c .if1 .taken)))
 
@@ -36,19 +33,27 @@ is-sound-of-few-requires c κs = (room (c .before) .0, c .if2 .taken)
 returns-2 : tie.Need-returns-2
 returns-2 c = let a = c .before .before .before .before .before .args in let r = c .is-sound-of-few in answer-is (now (a .words)) (now (a .amounts)) (a .places) (a .used) (fit (c .before .before)) (r .result) (r .ensures .0) (r .ensures .1)
 
-is-sound-of-many-requires : tie.Need-is-sound-of-many-requires
-is-sound-of-many-requires c κs = room (c .before)
+is-sound-of-some-requires : tie.Need-is-sound-of-some-requires
+is-sound-of-some-requires c κs = (room (c .before .before) .0, c .if3 .taken)
 
 returns-3 : tie.Need-returns-3
-returns-3 c = let a = c .before .before .before .before .before .args in let r = c .is-sound-of-many in answer-is (now (a .words)) (now (a .amounts)) (a .places) (a .used) (fit (c .before .before)) (r .result) (r .ensures .0) (r .ensures .1)
+returns-3 c = let a = c .before .before .before .before .before .before .args in let r = c .is-sound-of-some in answer-is (now (a .words)) (now (a .amounts)) (a .places) (a .used) (fit (c .before .before .before)) (r .result) (r .ensures .0) (r .ensures .1)
+
+is-sound-of-many-requires : tie.Need-is-sound-of-many-requires
+is-sound-of-many-requires c κs = room (c .before .before)
+
+returns-4 : tie.Need-returns-4
+returns-4 c = let a = c .before .before .before .before .before .before .args in let r = c .is-sound-of-many in answer-is (now (a .words)) (now (a .amounts)) (a .places) (a .used) (fit (c .before .before .before)) (r .result) (r .ensures .0) (r .ensures .1)
 
 pub is-sound-spec : {M : Type 1} → statement M
 is-sound-spec =
     tie.close
     (tie.spec
-    sizes-fit-requires
+    (λ c κs. search needs)
     returns
     is-sound-of-few-requires
     returns-2
+    is-sound-of-some-requires
+    returns-3
     is-sound-of-many-requires
-    returns-3)
+    returns-4)

@@ -15,41 +15,8 @@ use native.Mathlib.Omega.{arith}
 use Rattle.sound_ledgers.proofs.is_sound_in.Statement.{statement}
 use Rattle.sound_ledgers.proofs.is_sound_in.Tie as tie
 
-copy-entries-requires : tie.Need-copy-entries-requires
-copy-entries-requires c κs = search needs
-
-same-length : tie.Need-same-length
-same-length c = search needs
-
-same-length-2 : tie.Need-same-length-2
-same-length-2 c = search needs
-
-same-length-3 : tie.Need-same-length-3
-same-length-3 c = search needs
-
-same-length-4 : tie.Need-same-length-4
-same-length-4 c = search needs
-
 returns : tie.Need-returns
 returns c = (λ e. let w : _≡_ {A = ℕ} 0 1 = cc in absurd (omega arith), λ _. c .before .before .before .before .before .before .before .before .before .before .copy-entries .ensures .1 (not-true _ (c .if1 .taken)))
-
-first-repeated-requires : tie.Need-first-repeated-requires
-first-repeated-requires c κs = search needs
-
-same-length-5 : tie.Need-same-length-5
-same-length-5 c = search needs
-
-same-length-6 : tie.Need-same-length-6
-same-length-6 c = search needs
-
-same-length-7 : tie.Need-same-length-7
-same-length-7 c = search needs
-
-same-length-8 : tie.Need-same-length-8
-same-length-8 c = search needs
-
-same-length-9 : tie.Need-same-length-9
-same-length-9 c = search needs
 
 returns-2 : tie.Need-returns-2
 returns-2 c =
@@ -73,24 +40,6 @@ pair-off-requires c κs =
       ((copied .0, keys-differ es (a .used) _ (copied .0) (all-different _ (a .used) (sym (repeated .ensures .0) ∙ none))), (copied .1, room .unmarked)),
     )
 
-same-length-10 : tie.Need-same-length-10
-same-length-10 c = search needs
-
-same-length-11 : tie.Need-same-length-11
-same-length-11 c = search needs
-
-same-length-12 : tie.Need-same-length-12
-same-length-12 c = search needs
-
-same-length-13 : tie.Need-same-length-13
-same-length-13 c = search needs
-
-same-length-14 : tie.Need-same-length-14
-same-length-14 c = search needs
-
-same-length-15 : tie.Need-same-length-15
-same-length-15 c = search needs
-
 returns-3 : tie.Need-returns-3
 returns-3 c = (λ e. let w : _≡_ {A = ℕ} 0 1 = cc in absurd (omega arith), λ _. c .before .before .before .pair-off .ensures .1 (not-true _ (c .if3 .taken)))
 
@@ -101,27 +50,6 @@ all-apart-requires c κs =
     let gathered = c .before .before .before .before .before .before .before .before .before .before .before .before .before .before .before .before .before .before .before .before .before .before .before .before .before .before .before .before .copy-entries .ensures .0 (not-false _ (c .before .before .before .before .before .before .before .before .before .before .before .before .before .before .before .before .before .before .if1 .left)) .2 in
     let room = s .pre .1 in
     (search needs, omega (arith, gathered .few, room .begun, kept), omega (arith, gathered .few, room .ordered), omega (arith, gathered .few, room .marked, c .before .before .before .before .before .before .before .pair-off .kept), omega (arith, gathered .few, s .pre .0 .1))
-
-same-length-16 : tie.Need-same-length-16
-same-length-16 c = search needs
-
-same-length-17 : tie.Need-same-length-17
-same-length-17 c = search needs
-
-same-length-18 : tie.Need-same-length-18
-same-length-18 c = search needs
-
-same-length-19 : tie.Need-same-length-19
-same-length-19 c = search needs
-
-same-length-20 : tie.Need-same-length-20
-same-length-20 c = search needs
-
-same-length-21 : tie.Need-same-length-21
-same-length-21 c = search needs
-
-same-length-22 : tie.Need-same-length-22
-same-length-22 c = search needs
 
 returns-4 : tie.Need-returns-4
 returns-4 c =
@@ -141,33 +69,33 @@ pub is-sound-in-spec : {M : Type 1} → statement M
 is-sound-in-spec =
     tie.close
     (tie.spec
-    copy-entries-requires
-    same-length
-    same-length-2
-    same-length-3
-    same-length-4
+    (λ c κs. search needs)
+    (λ c. search needs)
+    (λ c. search needs)
+    (λ c. search needs)
+    (λ c. search needs)
     returns
-    first-repeated-requires
-    same-length-5
-    same-length-6
-    same-length-7
-    same-length-8
-    same-length-9
+    (λ c κs. search needs)
+    (λ c. search needs)
+    (λ c. search needs)
+    (λ c. search needs)
+    (λ c. search needs)
+    (λ c. search needs)
     returns-2
     pair-off-requires
-    same-length-10
-    same-length-11
-    same-length-12
-    same-length-13
-    same-length-14
-    same-length-15
+    (λ c. search needs)
+    (λ c. search needs)
+    (λ c. search needs)
+    (λ c. search needs)
+    (λ c. search needs)
+    (λ c. search needs)
     returns-3
     all-apart-requires
-    same-length-16
-    same-length-17
-    same-length-18
-    same-length-19
-    same-length-20
-    same-length-21
-    same-length-22
+    (λ c. search needs)
+    (λ c. search needs)
+    (λ c. search needs)
+    (λ c. search needs)
+    (λ c. search needs)
+    (λ c. search needs)
+    (λ c. search needs)
     returns-4)

@@ -6,15 +6,9 @@ use borrow.Author.Needs.{needs}
 use Rattle.sound_ledgers.proofs.key.Statement.{statement}
 use Rattle.sound_ledgers.proofs.key.Tie as tie
 
-mul-result : tie.Need-mul-result
-mul-result c = search needs
-
-add-result : tie.Need-add-result
-add-result c = search needs
-
 returns : tie.Need-returns
 unfolding keyOf
 returns c = refl
 
 pub key-spec : {M : Type 1} → statement M
-key-spec = tie.close (tie.spec mul-result add-result returns)
+key-spec = tie.close (tie.spec (λ c. search needs) (λ c. search needs) returns)

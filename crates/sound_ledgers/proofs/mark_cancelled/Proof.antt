@@ -24,21 +24,12 @@ abbrev μ-loop : tie.MeasureT-loop
 loop-holds : tie.Need-loop-holds Inv-loop μ-loop
 loop-holds c = let s = c .before .before .before .before .before in let a = s .args in (omega arith, refl, marked-none (entriesOf (now (a .words)) (now (a .amounts)) (a .used)) (now (a .marks)) (s .pre .1 .1 .1))
 
-shared-slice-read-if1 : tie.Need-shared-slice-read-if1 Inv-loop μ-loop
-shared-slice-read-if1 c = search needs
-
-entry-in-use-requires : tie.Need-entry-in-use-requires Inv-loop μ-loop
-entry-in-use-requires c κs = search needs
-
 cancelled-place-requires : tie.Need-cancelled-place-requires Inv-loop μ-loop
 cancelled-place-requires c κs =
     let s = c .before .before .before .before .before .before .before .before .before .before in
     let less = c .before .before .before .loop-test .taken in
     let is = c .entry-in-use .ensures in
     ((s .pre .0 .0, less, s .pre .0 .3), (s .pre .1 .0, (is, ap (λ (e : Entry). e .state) is ∙ sym (s .pre .1 .1 .0 _ less) ∙ c .before .if1 .taken)))
-
-same-length : tie.Need-same-length Inv-loop μ-loop
-same-length c = search needs
 
 returns : tie.Need-returns Inv-loop μ-loop
 returns c =
@@ -48,15 +39,6 @@ returns c =
     let es = entriesOf (now (a .words)) (now (a .amounts)) (a .used) in
     (λ e. let w : _≡_ {A = ℕ} 0 1 = cc in absurd (omega arith), λ _. unpaired-cancel es (a .used) (s .pre .1 .0 .1) (c .before .before .before .before .before .before .loop .i) less (sym (s .pre .1 .1 .0 _ less) ∙ c .before .before .before .if1 .taken) (c .before .cancelled-place .ensures .1 (c .if2 .taken)))
 
-mul-if3 : tie.Need-mul-if3 Inv-loop μ-loop
-mul-if3 c = search needs
-
-slice-read-if3 : tie.Need-slice-read-if3 Inv-loop μ-loop
-slice-read-if3 c = search needs
-
-same-length-2 : tie.Need-same-length-2 Inv-loop μ-loop
-same-length-2 c = search needs
-
 returns-2 : tie.Need-returns-2 Inv-loop μ-loop
 returns-2 c =
     let s = c .before .before .before .before .before .before .before .before .before .before .before .before .before .before in
@@ -65,24 +47,6 @@ returns-2 c =
     let less = c .before .before .before .before .before .before .before .loop-test .taken in
     let es = entriesOf (now (a .words)) (now (a .amounts)) (a .used) in
     (λ e. let w : _≡_ {A = ℕ} 0 1 = cc in absurd (omega arith), λ _. marked-twice es (a .used) (s .pre .1 .0 .1) (p .i) (c .before .before .before .cancelled-place .result) (p .marks) less (p .inv .2) (c .before .before .before .cancelled-place .ensures .0 (c .before .before .if2 .left)) (c .if3 .taken))
-
-add-marks : tie.Need-add-marks Inv-loop μ-loop
-add-marks c = search needs
-
-cast-marks : tie.Need-cast-marks Inv-loop μ-loop
-cast-marks c = search needs
-
-mul-marks : tie.Need-mul-marks Inv-loop μ-loop
-mul-marks c = search needs
-
-slice-write-marks : tie.Need-slice-write-marks Inv-loop μ-loop
-slice-write-marks c = search needs
-
-add-i : tie.Need-add-i Inv-loop μ-loop
-add-i c = search needs
-
-loop-less : tie.Need-loop-less Inv-loop μ-loop
-loop-less c = search needs
 
 loop-again : tie.Need-loop-again Inv-loop μ-loop
 loop-again c =
@@ -102,9 +66,6 @@ loop-again c =
     (omega arith, ap length (w .1) ∙ room, subst (λ (m : List ℕ). Marked es (p .i + 1) m) (sym (w .1)) kept))
     (c .if1 .came)
 
-same-length-3 : tie.Need-same-length-3 Inv-loop μ-loop
-same-length-3 c = search needs
-
 returns-3 : tie.Need-returns-3 Inv-loop μ-loop
 returns-3 c =
     let p = c .before .loop in
@@ -120,21 +81,21 @@ mark-cancelled-spec =
     Inv-loop
     μ-loop
     loop-holds
-    shared-slice-read-if1
-    entry-in-use-requires
+    (λ c. search needs)
+    (λ c κs. search needs)
     cancelled-place-requires
-    same-length
+    (λ c. search needs)
     returns
-    mul-if3
-    slice-read-if3
-    same-length-2
+    (λ c. search needs)
+    (λ c. search needs)
+    (λ c. search needs)
     returns-2
-    add-marks
-    cast-marks
-    mul-marks
-    slice-write-marks
-    add-i
-    loop-less
+    (λ c. search needs)
+    (λ c. search needs)
+    (λ c. search needs)
+    (λ c. search needs)
+    (λ c. search needs)
+    (λ c. search needs)
     loop-again
-    same-length-3
+    (λ c. search needs)
     returns-3)

@@ -11,20 +11,8 @@ use native.Mathlib.Omega.{arith}
 use Rattle.sound_ledgers.proofs.pair_off.Statement.{statement}
 use Rattle.sound_ledgers.proofs.pair_off.Tie as tie
 
-mark-cancelled-requires : tie.Need-mark-cancelled-requires
-mark-cancelled-requires c κs = search needs
-
-same-length : tie.Need-same-length
-same-length c = search needs
-
 returns : tie.Need-returns
 returns c = (λ e. let w : _≡_ {A = ℕ} 0 1 = cc in absurd (omega arith), λ _. c .before .before .before .mark-cancelled .ensures .1 (not-true _ (c .if1 .taken)))
-
-all-marked-requires : tie.Need-all-marked-requires
-all-marked-requires c κs = search needs
-
-same-length-2 : tie.Need-same-length-2
-same-length-2 c = search needs
 
 returns-2 : tie.Need-returns-2
 returns-2 c =
@@ -41,9 +29,9 @@ pub pair-off-spec : {M : Type 1} → statement M
 pair-off-spec =
     tie.close
     (tie.spec
-    mark-cancelled-requires
-    same-length
+    (λ c κs. search needs)
+    (λ c. search needs)
     returns
-    all-marked-requires
-    same-length-2
+    (λ c κs. search needs)
+    (λ c. search needs)
     returns-2)

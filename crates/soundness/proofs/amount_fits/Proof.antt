@@ -6,11 +6,8 @@ use borrow.Author.Needs.{needs}
 use Rattle.soundness.proofs.amount_fits.Statement.{statement}
 use Rattle.soundness.proofs.amount_fits.Tie as tie
 
-size-requires : tie.Need-size-requires
-size-requires c κs = search needs
-
 returns : tie.Need-returns
 returns c = rw (c .size .ensures) (rw (toZ-ofZ {w = w64} (c .before .fits .amount)))
 
 pub amount-fits-spec : {M : Type 1} → statement M
-amount-fits-spec = tie.close (tie.spec size-requires returns)
+amount-fits-spec = tie.close (tie.spec (λ c κs. search needs) returns)

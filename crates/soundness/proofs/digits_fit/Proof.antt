@@ -8,12 +8,6 @@ use borrow.Author.Needs.{needs}
 use Rattle.soundness.proofs.digits_fit.Statement.{statement}
 use Rattle.soundness.proofs.digits_fit.Tie as tie
 
-amount-fits-requires : tie.Need-amount-fits-requires
-amount-fits-requires c κs = search needs
-
-amount-fits-requires-2 : tie.Need-amount-fits-requires-2
-amount-fits-requires-2 c κs = search needs
-
 returns : tie.Need-returns
 unfolding digitsFit
 returns c =
@@ -22,4 +16,4 @@ returns c =
     let usage : toZ w64 (ofZ w64 (e .usage)) ≡ e .usage = search needs in cc
 
 pub digits-fit-spec : {M : Type 1} → statement M
-digits-fit-spec = tie.close (tie.spec amount-fits-requires amount-fits-requires-2 returns)
+digits-fit-spec = tie.close (tie.spec (λ c κs. search needs) (λ c κs. search needs) returns)

@@ -15,12 +15,9 @@ returns-2 : tie.Need-returns-2
 unfolding isNamed
 returns-2 c = simp (ne-eqb _ _ (c .if2 .taken), and-false)
 
-has-same-subject-requires : tie.Need-has-same-subject-requires
-has-same-subject-requires c κs = search needs
-
 returns-3 : tie.Need-returns-3
 unfolding isNamed
 returns-3 c = simp (c .has-same-subject .ensures, eq-eqb _ _ (c .before .before .before .before .if1 .left), eq-eqb _ _ (c .before .if2 .left))
 
 pub is-named-spec : {M : Type 1} → statement M
-is-named-spec = tie.close (tie.spec returns returns-2 has-same-subject-requires returns-3)
+is-named-spec = tie.close (tie.spec returns returns-2 (λ c κs. search needs) returns-3)

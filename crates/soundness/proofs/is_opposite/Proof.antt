@@ -11,9 +11,6 @@ use borrow.Author.Needs.{needs}
 use Rattle.soundness.proofs.is_opposite.Statement.{statement}
 use Rattle.soundness.proofs.is_opposite.Tie as tie
 
-are-opposite-requires : tie.Need-are-opposite-requires
-are-opposite-requires c κs = search needs
-
 -- what the first call answers
 charges : (c : tie.After-are-opposite) → c .are-opposite .result ≡ isZero (c .before .before .before .args .cancel .charge +ℤ c .before .before .before .args .e .charge)
 charges c =
@@ -25,9 +22,6 @@ charges c =
 returns : tie.Need-returns
 returns c = let p = c .before .before .before .before in sym (charges-differ (p .args .cancel) (p .args .e) (sym (charges (c .before)) ∙ not-true _ (c .if1 .taken)))
 
-are-opposite-requires-2 : tie.Need-are-opposite-requires-2
-are-opposite-requires-2 c κs = search needs
-
 returns-2 : tie.Need-returns-2
 returns-2 c =
     let p = c .before .before .before .before .before .before .before in
@@ -38,4 +32,4 @@ returns-2 c =
 
 pub is-opposite-spec : {M : Type 1} → statement M
 is-opposite-spec =
-    tie.close (tie.spec are-opposite-requires returns are-opposite-requires-2 returns-2)
+    tie.close (tie.spec (λ c κs. search needs) returns (λ c κs. search needs) returns-2)

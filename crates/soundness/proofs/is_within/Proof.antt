@@ -4,8 +4,5 @@ use borrow.Author.Needs.{needs}
 use Rattle.soundness.proofs.is_within.Statement.{statement}
 use Rattle.soundness.proofs.is_within.Tie as tie
 
-returns : tie.Need-returns
-returns c = search needs
-
 pub is-within-spec : {M : Type 1} → statement M
-is-within-spec = tie.close (tie.spec returns)
+is-within-spec = tie.close (tie.spec (λ c. search needs))

@@ -5,15 +5,9 @@ use borrow.Author.Needs.{needs}
 use Rattle.soundness.proofs.lacks_fit.Statement.{statement}
 use Rattle.soundness.proofs.lacks_fit.Tie as tie
 
-period-lacks-fit-requires : tie.Need-period-lacks-fit-requires
-period-lacks-fit-requires c κs = search needs
-
-site-lack-fits-requires : tie.Need-site-lack-fits-requires
-site-lack-fits-requires c κs = search needs
-
 returns : tie.Need-returns
 unfolding lacksFit
 returns c = cc
 
 pub lacks-fit-spec : {M : Type 1} → statement M
-lacks-fit-spec = tie.close (tie.spec period-lacks-fit-requires site-lack-fits-requires returns)
+lacks-fit-spec = tie.close (tie.spec (λ c κs. search needs) (λ c κs. search needs) returns)

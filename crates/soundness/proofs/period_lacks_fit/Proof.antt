@@ -7,13 +7,10 @@ use borrow.Author.Needs.{needs}
 use Rattle.soundness.proofs.period_lacks_fit.Statement.{statement}
 use Rattle.soundness.proofs.period_lacks_fit.Tie as tie
 
-size-requires : tie.Need-size-requires
-size-requires c κs = search needs
-
 returns : tie.Need-returns
 returns c =
     let e = c .before .before .before .before .before .args .e in
     let usage : toZ w64 (ofZ w64 (e .usage)) ≡ e .usage = search needs in cc
 
 pub period-lacks-fit-spec : {M : Type 1} → statement M
-period-lacks-fit-spec = tie.close (tie.spec size-requires returns)
+period-lacks-fit-spec = tie.close (tie.spec (λ c κs. search needs) returns)

@@ -5,9 +5,6 @@ use borrow.Author.Needs.{needs}
 use Rattle.soundness.proofs.read_count.Statement.{statement}
 use Rattle.soundness.proofs.read_count.Tie as tie
 
-sizes-fit-requires : tie.Need-sizes-fit-requires
-sizes-fit-requires c κs = search needs
-
 returns : tie.Need-returns
 returns c = rw (sym (c .before .sizes-fit .ensures) ∙ c .if1 .taken)
 
@@ -15,4 +12,4 @@ returns-2 : tie.Need-returns-2
 returns-2 c = rw (sym (c .before .sizes-fit .ensures) ∙ c .if1 .left)
 
 pub read-count-spec : {M : Type 1} → statement M
-read-count-spec = tie.close (tie.spec sizes-fit-requires returns returns-2)
+read-count-spec = tie.close (tie.spec (λ c κs. search needs) returns returns-2)

@@ -15,19 +15,10 @@ returns-2 : tie.Need-returns-2
 unfolding mayFollow
 returns-2 c = simp (le-ltb _ _ (c .if2 .taken), and-false)
 
-mul-result : tie.Need-mul-result
-mul-result c = search needs
-
-index-1-result : tie.Need-index-1-result
-index-1-result c = search needs
-
-index-2-result : tie.Need-index-2-result
-index-2-result c = search needs
-
 returns-3 : tie.Need-returns-3
 unfolding mayFollow
 returns-3 c = simp (lt-ltb _ _ (c .before .before .if1 .left), lt-ltb _ _ (c .before .if2 .left), c .before .before .before .pre)
 
 pub may-follow-spec : {M : Type 1} → statement M
 may-follow-spec =
-    tie.close (tie.spec returns returns-2 mul-result index-1-result index-2-result returns-3)
+    tie.close (tie.spec returns returns-2 (λ c. search needs) (λ c. search needs) (λ c. search needs) returns-3)

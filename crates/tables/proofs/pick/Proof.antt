@@ -19,41 +19,11 @@ abbrev μ-loop : tie.MeasureT-loop
 loop-holds : tie.Need-loop-holds Inv-loop μ-loop
 loop-holds c = let a = c .before .before .before .args in (search needs, search needs, tabling-none (pickedAt (a .types .now) (a .values .now) (a .low) (a .high)) _)
 
-mul-chosen : tie.Need-mul-chosen Inv-loop μ-loop
-mul-chosen c = search needs
-
-shared-slice-read-chosen : tie.Need-shared-slice-read-chosen Inv-loop μ-loop
-shared-slice-read-chosen c = search needs
-
-mul-chosen-2 : tie.Need-mul-chosen-2 Inv-loop μ-loop
-mul-chosen-2 c = search needs
-
-shared-slice-read-chosen-2 : tie.Need-shared-slice-read-chosen-2 Inv-loop μ-loop
-shared-slice-read-chosen-2 c = search needs
-
-chosen-requires : tie.Need-chosen-requires Inv-loop μ-loop
-chosen-requires c κs = search needs
-
-mul-out : tie.Need-mul-out Inv-loop μ-loop
-mul-out c = search needs
-
-slice-write-out : tie.Need-slice-write-out Inv-loop μ-loop
-slice-write-out c = search needs
-
-add-i : tie.Need-add-i Inv-loop μ-loop
-add-i c = search needs
-
-loop-less : tie.Need-loop-less Inv-loop μ-loop
-loop-less c = search needs
-
 loop-again : tie.Need-loop-again Inv-loop μ-loop
 loop-again c =
     let p = c .before .before .before .before in
     let a = c .before .before .before .before .before .before .before .before .args in
     (search needs, search needs, tabling-more (pickedAt (a .types .now) (a .values .now) (a .low) (a .high)) (a .out .now) (p .loop .i) (p .loop .out) (c .chosen .result) (omega arith) (p .loop .inv .2) (c .chosen .ensures))
-
-same-length : tie.Need-same-length Inv-loop μ-loop
-same-length c = search needs
 
 returns : tie.Need-returns Inv-loop μ-loop
 unfolding picked
@@ -69,15 +39,15 @@ pick-spec =
     Inv-loop
     μ-loop
     loop-holds
-    mul-chosen
-    shared-slice-read-chosen
-    mul-chosen-2
-    shared-slice-read-chosen-2
-    chosen-requires
-    mul-out
-    slice-write-out
-    add-i
-    loop-less
+    (λ c. search needs)
+    (λ c. search needs)
+    (λ c. search needs)
+    (λ c. search needs)
+    (λ c κs. search needs)
+    (λ c. search needs)
+    (λ c. search needs)
+    (λ c. search needs)
+    (λ c. search needs)
     loop-again
-    same-length
+    (λ c. search needs)
     returns)

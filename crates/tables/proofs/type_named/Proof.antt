@@ -38,20 +38,8 @@ returns : tie.Need-returns
 unfolding typeNamed
 returns c = simp (ne-eqb _ _ (c .if1 .taken))
 
-shared-slice-read-wide : tie.Need-shared-slice-read-wide
-shared-slice-read-wide c = search needs
-
-wide-requires : tie.Need-wide-requires
-wide-requires c κs = search needs
-
 mul-match : tie.Need-mul-match
 mul-match c = omega (arith, c .before .shared-slice-known2 .given 0)
-
-shared-slice-read-wide-2 : tie.Need-shared-slice-read-wide-2
-shared-slice-read-wide-2 c = search needs
-
-wide-requires-2 : tie.Need-wide-requires-2
-wide-requires-2 c κs = search needs
 
 add-match : tie.Need-add-match
 add-match c = omega (arith, c .before .before .before .shared-slice-known2 .given 0, c .before .shared-slice-known3 .given 1)
@@ -106,11 +94,11 @@ type-named-spec =
     tie.close
     (tie.spec
     returns
-    shared-slice-read-wide
-    wide-requires
+    (λ c. search needs)
+    (λ c κs. search needs)
     mul-match
-    shared-slice-read-wide-2
-    wide-requires-2
+    (λ c. search needs)
+    (λ c κs. search needs)
     add-match
     returns-2
     returns-3

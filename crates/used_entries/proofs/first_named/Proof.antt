@@ -15,15 +15,9 @@ returns c =
     let a = c .before .before .before .before .before .args in
     sym (ap (λ (r : ℕ). namedFirst (now (a .words)) (now (a .amounts)) (a .used) (now (a .marks)) r (a .c)) (c .if1 .taken) ∙ named-none (now (a .words)) (now (a .amounts)) (a .used) (now (a .marks)) (a .c))
 
-sub-t10 : tie.Need-sub-t10
-sub-t10 c = search needs
-
-first-wanted-requires : tie.Need-first-wanted-requires
-first-wanted-requires c κs = search needs
-
 returns-2 : tie.Need-returns-2
 unfolding namedFirst namesAs wantedAt wants
 returns-2 c = simp (ne-eqb (c .before .before .before .before .before .before .args .reference) 0 (c .before .if1 .left)) (c .first-wanted .ensures)
 
 pub first-named-spec : {M : Type 1} → statement M
-first-named-spec = tie.close (tie.spec returns sub-t10 first-wanted-requires returns-2)
+first-named-spec = tie.close (tie.spec returns (λ c. search needs) (λ c κs. search needs) returns-2)

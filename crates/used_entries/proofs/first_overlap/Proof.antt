@@ -30,9 +30,6 @@ Inv-loop words amounts n heads links a first₀ at₀ first at = Walked (meets a
 abbrev μ-loop : tie.MeasureT-loop
 μ-loop words amounts n heads links a first₀ at₀ first at = at
 
-head-requires : tie.Need-head-requires Inv-loop μ-loop
-head-requires c κs = search needs
-
 loop-holds : tie.Need-loop-holds Inv-loop μ-loop
 loop-holds c =
     let s = c .before .before .before .before in
@@ -42,18 +39,6 @@ loop-holds c =
     let b = bucketOf size (a .a .site) in
     walk-start (meets (a .a) (now (a .words)) (now (a .amounts))) size sites (a .n) (a .a .site) (overlap-only (now (a .words)) (now (a .amounts)) (a .a) (a .n)) (c .head .result)
     (subst (Latest size sites b (a .n)) (sym (c .head .ensures)) (s .pre .1 .headed b))
-
-sub-place : tie.Need-sub-place Inv-loop μ-loop
-sub-place c = search needs
-
-entry-at-requires : tie.Need-entry-at-requires Inv-loop μ-loop
-entry-at-requires c κs = search needs
-
-overlaps-requires : tie.Need-overlaps-requires Inv-loop μ-loop
-overlaps-requires c κs = search needs
-
-next-requires : tie.Need-next-requires Inv-loop μ-loop
-next-requires c κs = search needs
 
 loop-less : tie.Need-loop-less Inv-loop μ-loop
 loop-less c =
@@ -88,12 +73,12 @@ first-overlap-spec =
     (tie.spec
     Inv-loop
     μ-loop
-    head-requires
+    (λ c κs. search needs)
     loop-holds
-    sub-place
-    entry-at-requires
-    overlaps-requires
-    next-requires
+    (λ c. search needs)
+    (λ c κs. search needs)
+    (λ c κs. search needs)
+    (λ c κs. search needs)
     loop-less
     loop-again
     returns)

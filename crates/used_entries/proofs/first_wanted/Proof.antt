@@ -24,9 +24,6 @@ Inv-loop words amounts used heads links marks search key best₀ link₀ best li
 abbrev μ-loop : tie.MeasureT-loop
 μ-loop words amounts used heads links marks search key best₀ link₀ best link = link
 
-wanted-key-requires : tie.Need-wanted-key-requires Inv-loop μ-loop
-wanted-key-requires c κs = search needs
-
 head-requires : tie.Need-head-requires Inv-loop μ-loop
 head-requires c κs = (c .before .before .before .before .before .pre .1 .room .some, c .before .before .before .before .before .pre .1 .room .bounded)
 
@@ -41,9 +38,6 @@ loop-holds c =
     let link : c .head .result ≡ getD (now (a .heads)) bucket 0 = c .head .ensures ∙ ap (λ (x : ℕ). getD (now (a .heads)) (bucketOf size x) 0) (c .before .wanted-key .ensures) in
     walk-start f size value (a .used) (wantedKey (a .search)) (wanted-only (now (a .words)) (now (a .amounts)) (now (a .marks)) (a .search) (a .used)) (c .head .result)
     (subst (Latest size value bucket (a .used)) (sym link) (s .pre .1 .headed bucket))
-
-sub-place : tie.Need-sub-place Inv-loop μ-loop
-sub-place c = search needs
 
 is-wanted-at-requires : tie.Need-is-wanted-at-requires Inv-loop μ-loop
 is-wanted-at-requires c κs = room-fewer (omega (arith, c .before .loop .inv .within, c .loop-test .taken)) (c .before .before .before .before .before .before .before .before .pre .0)
@@ -86,10 +80,10 @@ first-wanted-spec =
     (tie.spec
     Inv-loop
     μ-loop
-    wanted-key-requires
+    (λ c κs. search needs)
     head-requires
     loop-holds
-    sub-place
+    (λ c. search needs)
     is-wanted-at-requires
     next-requires
     loop-less

@@ -10,12 +10,6 @@ use Rattle.used_entries.proofs.Laws.{some-any}
 use Rattle.used_entries.proofs.has_wanted.Statement.{statement}
 use Rattle.used_entries.proofs.has_wanted.Tie as tie
 
-slice-aggregate-first-wanted : tie.Need-slice-aggregate-first-wanted
-slice-aggregate-first-wanted c = search needs
-
-first-wanted-requires : tie.Need-first-wanted-requires
-first-wanted-requires c κs = search needs
-
 returns : tie.Need-returns
 unfolding wantedAt
 returns c =
@@ -23,4 +17,4 @@ returns c =
     ap (λ (m : ℕ). ltb m (a .used)) (c .first-wanted .ensures) ∙ some-any (wants (a .search)) (now (a .words)) (now (a .amounts)) (a .used)
 
 pub has-wanted-spec : {M : Type 1} → statement M
-has-wanted-spec = tie.close (tie.spec slice-aggregate-first-wanted first-wanted-requires returns)
+has-wanted-spec = tie.close (tie.spec (λ c. search needs) (λ c κs. search needs) returns)

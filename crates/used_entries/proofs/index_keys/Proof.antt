@@ -30,22 +30,10 @@ loop-holds c =
     let a = s .args in
     (omega arith, refl, refl, chained-none (keyIn (now (a .words)) (now (a .amounts))) (now (a .heads)) (now (a .links)) (room (s .pre .0 .1) refl refl (omega arith)) (s .pre .1))
 
-entry-at-requires : tie.Need-entry-at-requires Inv-loop μ-loop
-entry-at-requires c κs = search needs
-
-key-requires : tie.Need-key-requires Inv-loop μ-loop
-key-requires c κs = search needs
-
 push-requires : tie.Need-push-requires Inv-loop μ-loop
 push-requires c κs =
     let p = c .before .before .before .before .before .loop in
     room (c .before .before .before .before .before .before .before .before .before .pre .0 .1) (p .inv .1) (p .inv .2) (omega (arith, c .before .before .before .before .loop-test .taken))
-
-add-i : tie.Need-add-i Inv-loop μ-loop
-add-i c = search needs
-
-loop-less : tie.Need-loop-less Inv-loop μ-loop
-loop-less c = search needs
 
 loop-again : tie.Need-loop-again Inv-loop μ-loop
 loop-again c =
@@ -54,12 +42,6 @@ loop-again c =
     let push = c .before .before .before .before .push .ensures in
     let key = c .before .before .before .before .before .before .before .key .ensures ∙ ap (λ (e : Entry). keyOf (e .sender) (e .id)) (c .before .before .before .before .before .before .before .before .entry-at .ensures) in
     (omega (arith, c .before .before .before .before .before .before .before .before .before .loop-test .taken), push .heads-length ∙ p .inv .1, push .links-length ∙ p .inv .2, push .chains (keyIn (now (a .words)) (now (a .amounts))) (sym key) (p .inv .3))
-
-same-length : tie.Need-same-length Inv-loop μ-loop
-same-length c = search needs
-
-same-length-2 : tie.Need-same-length-2 Inv-loop μ-loop
-same-length-2 c = search needs
 
 returns : tie.Need-returns Inv-loop μ-loop
 returns c =
@@ -75,12 +57,12 @@ index-keys-spec =
     Inv-loop
     μ-loop
     loop-holds
-    entry-at-requires
-    key-requires
+    (λ c κs. search needs)
+    (λ c κs. search needs)
     push-requires
-    add-i
-    loop-less
+    (λ c. search needs)
+    (λ c. search needs)
     loop-again
-    same-length
-    same-length-2
+    (λ c. search needs)
+    (λ c. search needs)
     returns)

@@ -27,18 +27,6 @@ loop-holds c =
       chained-none (siteIn (now (s .args .words)) (now (s .args .amounts))) (now (s .args .heads)) (now (s .args .links)) (search needs) (s .pre .1),
     )
 
-entry-at-requires : tie.Need-entry-at-requires Inv-loop μ-loop
-entry-at-requires c κs = search needs
-
-push-requires : tie.Need-push-requires Inv-loop μ-loop
-push-requires c κs = search needs
-
-add-i : tie.Need-add-i Inv-loop μ-loop
-add-i c = search needs
-
-loop-less : tie.Need-loop-less Inv-loop μ-loop
-loop-less c = search needs
-
 loop-again : tie.Need-loop-again Inv-loop μ-loop
 loop-again c =
     let s = c .before .before .before .before .before .before .before .before .before .before .before .before .before in
@@ -49,12 +37,6 @@ loop-again c =
       pushed .links-length ∙ p .inv .2,
       pushed .chains (siteIn (now (s .args .words)) (now (s .args .amounts))) (sym (ap (λ (e : Entry). e .site) (c .before .before .before .before .before .before .before .entry-at .ensures))) (p .inv .3),
     )
-
-same-length : tie.Need-same-length Inv-loop μ-loop
-same-length c = search needs
-
-same-length-2 : tie.Need-same-length-2 Inv-loop μ-loop
-same-length-2 c = search needs
 
 returns : tie.Need-returns Inv-loop μ-loop
 returns c =
@@ -70,11 +52,11 @@ index-sites-spec =
     Inv-loop
     μ-loop
     loop-holds
-    entry-at-requires
-    push-requires
-    add-i
-    loop-less
+    (λ c κs. search needs)
+    (λ c κs. search needs)
+    (λ c. search needs)
+    (λ c. search needs)
     loop-again
-    same-length
-    same-length-2
+    (λ c. search needs)
+    (λ c. search needs)
     returns)

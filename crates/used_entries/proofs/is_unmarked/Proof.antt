@@ -12,11 +12,5 @@ use Rattle.used_entries.proofs.is_unmarked.Tie as tie
 returns : tie.Need-returns
 returns c = sym (ap (λ (m : ℕ). eqb m 0) (List·getD-eq-default (now (c .before .args .marks)) 0 (c .if1 .taken)))
 
-shared-slice-read-result : tie.Need-shared-slice-read-result
-shared-slice-read-result c = search needs
-
-returns-2 : tie.Need-returns-2
-returns-2 c = search needs
-
 pub is-unmarked-spec : {M : Type 1} → statement M
-is-unmarked-spec = tie.close (tie.spec returns shared-slice-read-result returns-2)
+is-unmarked-spec = tie.close (tie.spec returns (λ c. search needs) (λ c. search needs))

@@ -5,18 +5,6 @@ use Rattle.used_entries.specs.InsideSearches.{wants}
 use Rattle.used_entries.proofs.is_wanted.Statement.{statement}
 use Rattle.used_entries.proofs.is_wanted.Tie as tie
 
-enum-known-search : tie.Need-enum-known-search
-enum-known-search c = search needs
-
-enum-known-search-2 : tie.Need-enum-known-search-2
-enum-known-search-2 c = search needs
-
-enum-known-search-3 : tie.Need-enum-known-search-3
-enum-known-search-3 c = search needs
-
-has-same-subject-requires : tie.Need-has-same-subject-requires
-has-same-subject-requires c κs = search needs
-
 returns : tie.Need-returns
 unfolding wants
 returns c = simp (c .before .before .before .before .search .given .1)
@@ -33,10 +21,10 @@ pub is-wanted-spec : {M : Type 1} → statement M
 is-wanted-spec =
     tie.close
     (tie.spec
-    enum-known-search
-    enum-known-search-2
-    enum-known-search-3
-    has-same-subject-requires
+    (λ c. search needs)
+    (λ c. search needs)
+    (λ c. search needs)
+    (λ c κs. search needs)
     returns
     returns-2
     returns-3)

@@ -10,20 +10,11 @@ use Rattle.used_entries.specs.InsideSearches.{wants, wantedAt}
 use Rattle.used_entries.proofs.is_wanted_at.Statement.{statement}
 use Rattle.used_entries.proofs.is_wanted_at.Tie as tie
 
-is-unmarked-requires : tie.Need-is-unmarked-requires
-is-unmarked-requires c κs = search needs
-
 returns : tie.Need-returns
 unfolding wantedAt
 returns c =
     let a = c .before .before .before .before .args in
     sym (ap (λ (t : Bool). t && wants (a .search) (entryAt (now (a .words)) (now (a .amounts)) (a .place))) (sym (c .before .is-unmarked .ensures) ∙ not-true (c .before .is-unmarked .result) (c .if1 .taken)))
-
-entry-at-requires : tie.Need-entry-at-requires
-entry-at-requires c κs = search needs
-
-is-wanted-requires : tie.Need-is-wanted-requires
-is-wanted-requires c κs = search needs
 
 returns-2 : tie.Need-returns-2
 unfolding wantedAt
@@ -35,4 +26,4 @@ returns-2 c =
 pub is-wanted-at-spec : {M : Type 1} → statement M
 is-wanted-at-spec =
     tie.close
-    (tie.spec is-unmarked-requires returns entry-at-requires is-wanted-requires returns-2)
+    (tie.spec (λ c κs. search needs) returns (λ c κs. search needs) (λ c κs. search needs) returns-2)

@@ -5,24 +5,6 @@ use Rattle.used_entries.specs.InsideSearches.{wantedKey}
 use Rattle.used_entries.proofs.wanted_key.Statement.{statement}
 use Rattle.used_entries.proofs.wanted_key.Tie as tie
 
-enum-known-search : tie.Need-enum-known-search
-enum-known-search c = search needs
-
-key-requires : tie.Need-key-requires
-key-requires c κs = search needs
-
-enum-known-search-2 : tie.Need-enum-known-search-2
-enum-known-search-2 c = search needs
-
-key-requires-2 : tie.Need-key-requires-2
-key-requires-2 c κs = search needs
-
-enum-known-search-3 : tie.Need-enum-known-search-3
-enum-known-search-3 c = search needs
-
-key-requires-3 : tie.Need-key-requires-3
-key-requires-3 c κs = search needs
-
 returns : tie.Need-returns
 unfolding wantedKey
 returns c = simp (c .before .before .search .given .1) (c .key .ensures)
@@ -39,12 +21,12 @@ pub wanted-key-spec : {M : Type 1} → statement M
 wanted-key-spec =
     tie.close
     (tie.spec
-    enum-known-search
-    key-requires
-    enum-known-search-2
-    key-requires-2
-    enum-known-search-3
-    key-requires-3
+    (λ c. search needs)
+    (λ c κs. search needs)
+    (λ c. search needs)
+    (λ c κs. search needs)
+    (λ c. search needs)
+    (λ c κs. search needs)
     returns
     returns-2
     returns-3)

@@ -35,9 +35,6 @@ loop-holds c = (omega arith, omega arith, omega arith, start (c .args .n))
 add-k : tie.Need-add-k Inv-loop μ-loop
 add-k c = let p = c .before in omega (arith, step (p .loop .k) (p .loop .v) _ (p .loop .inv .0) (p .loop .inv .1) (p .loop .inv .2) (omega arith) (p .loop .inv .3) .1)
 
-loop-less : tie.Need-loop-less Inv-loop μ-loop
-loop-less c = search needs
-
 loop-again : tie.Need-loop-again Inv-loop μ-loop
 loop-again c = let p = c .before in step (p .loop .k) (p .loop .v) _ (p .loop .inv .0) (p .loop .inv .1) (p .loop .inv .2) (omega arith) (p .loop .inv .3)
 
@@ -46,4 +43,4 @@ returns c = let p = c .before in omega (arith, p .loop .inv .3, count-end (20 - 
 
 pub digit-count-spec : {M : Type 1} → statement M
 digit-count-spec =
-    tie.close (tie.spec Inv-loop μ-loop loop-holds add-k loop-less loop-again returns)
+    tie.close (tie.spec Inv-loop μ-loop loop-holds add-k (λ c. search needs) loop-again returns)

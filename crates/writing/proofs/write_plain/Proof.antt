@@ -12,9 +12,6 @@ use Rattle.writing.proofs.Numbers.{plain-length}
 use Rattle.writing.proofs.write_plain.Statement.{statement}
 use Rattle.writing.proofs.write_plain.Tie as tie
 
-digit-count-requires : tie.Need-digit-count-requires
-digit-count-requires c κs = search needs
-
 same : (out : List ℕ) (at n k : ℕ) → k ≡ digitCount n → writtenAt out at (digitsIn k n) ≡ writtenAt out at (plainDigits n)
 unfolding plainDigits
 same out at n k e = ap (λ (j : ℕ). writtenAt out at (digitsIn j n)) e
@@ -25,9 +22,6 @@ write-digits-requires c κs = omega (arith, plain-length (c .before .before .bef
 add-result : tie.Need-add-result
 add-result c = omega (arith, plain-length (c .before .before .before .before .before .before .args .n), c .before .before .before .before .digit-count .ensures)
 
-same-length : tie.Need-same-length
-same-length c = search needs
-
 returns : tie.Need-returns
 returns c =
     let a = c .before .before .before .before .before .before .args in (
@@ -37,4 +31,4 @@ returns c =
 
 pub write-plain-spec : {M : Type 1} → statement M
 write-plain-spec =
-    tie.close (tie.spec digit-count-requires write-digits-requires add-result same-length returns)
+    tie.close (tie.spec (λ c κs. search needs) write-digits-requires add-result (λ c. search needs) returns)
