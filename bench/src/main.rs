@@ -1,7 +1,8 @@
 //! Check, Book, Totals and Find, the proved functions beside the reference implementation.
 //!
 //! `cargo run --release --offline` times both sides in one run: medians of 11, each on a fresh input, and their ratios.
-//! `cargo run --release --offline -- ledger` times Book, Totals and Find alone.
+//! `cargo run --release --offline -- ledger` times Book, Totals and Find alone. `PADDING` is how many bytes stand before the code
+//! (none where it isn't set): tools/layouts.py times it in several layouts.
 //!
 //! `cargo run --release --offline -- profile SIDE N` calls one side N times on one input and prints nothing, for a profiler. SIDE
 //! is `proved-check` or `reference-check` (a file of 4,096 lines and many sites), one of these two with `-of-one-site` at its end,
@@ -30,6 +31,9 @@ use reference::file::RecordType;
 use reference::generate::RETAILER;
 use reference::ledger::{Entry, MOST_ENTRIES};
 use timing::{medians, medians_of_kinds, medians_of_restored_kinds, report, report_growth, Medians};
+
+// where the code stands
+std::arch::global_asm!(concat!(".text\n.skip ", env!("PADDING"), ", 0x90"));
 
 const DISTRIBUTORS: &[u8] = b"0040";
 

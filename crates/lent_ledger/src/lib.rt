@@ -75,7 +75,8 @@ fn written_to(reply: BookReply, used: usize) -> usize
     used + reply.added as usize
 }
 
-// From which place on: what was added, and all of it where the first record added is a cancel, which changes the record that it names.
+// From which place on: what was added; and from the first place, where the first record added is a cancel, since that changes the record that it names. The places that
+// have their entry already are not written.
 fn written_from(words: &[u64], amounts: &[i64], used: usize, to: usize) -> usize
     requires { ⌜ RoomFor to (now words) (now amounts) × (to ≤ 8192) ⌝ }
     ensures { λ r. ⌜ r ≡ writtenFrom (entriesOf (now (words .entry)) (now (amounts .entry)) to) used ⌝ }

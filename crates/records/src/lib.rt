@@ -53,12 +53,12 @@ pub fn find_lines(file: &[u8], starts: &mut [usize], ends: &mut [usize]) -> Line
     Lines::Count(n)
 }
 
-// How many bytes 10 stand in few bytes. 16 bits count them, so that many bytes are compared at once.
-fn ends_in(s: &[u8]) -> u16
-    requires { ⌜ length (now s) ≤ 65535 ⌝ }
+// How many bytes 10 stand in few bytes. 8 bits count them, so that many bytes are compared at once.
+fn ends_in(s: &[u8]) -> u8
+    requires { ⌜ length (now s) ≤ 255 ⌝ }
     ensures { λ r. ⌜ r ≡ lineEnds (now (s .entry)) ⌝ }
 {
-    let mut count: u16 = 0;
+    let mut count: u8 = 0;
     let mut i: usize = 0;
     while i < s.len() {
         if s[i] == 10 {
@@ -69,15 +69,15 @@ fn ends_in(s: &[u8]) -> u16
     count
 }
 
-// How many bytes 10 a file has: it has at most one line more. They are counted in blocks, of each of which 16 bits hold the count.
+// How many bytes 10 a file has: it has at most one line more. They are counted in blocks, of each of which 8 bits hold the count.
 pub fn line_ends(file: &[u8]) -> usize
     ensures { λ r. ⌜ r ≡ lineEnds (now (file .entry)) ⌝ }
 {
     let mut count: usize = 0;
     let mut a: usize = 0;
-    while 32768 <= file.len() - a {
-        count += ends_in(&file[a..a + 32768]) as usize;
-        a += 32768;
+    while 128 <= file.len() - a {
+        count += ends_in(&file[a..a + 128]) as usize;
+        a += 128;
     }
     count + ends_in(&file[a..]) as usize
 }

@@ -25,13 +25,13 @@ loop-holds c = omega arith
 ends-in-requires : tie.Need-ends-in-requires Inv-loop μ-loop
 ends-in-requires c κs =
     let a = c .before .before .loop .a in
-    omega (arith, part-length (now (c .before .before .before .before .args .file)) a (a + 32768) (omega arith))
+    omega (arith, part-length (now (c .before .before .before .before .args .file)) a (a + 128) (omega arith))
 
 -- a block more
-more : (c : tie.After-ends-in Inv-loop μ-loop) → lineEnds (now (c .before .before .before .before .before .args .file)) ≡ c .before .before .before .loop .count + c .ends-in .result + lineEnds (drop (c .before .before .before .loop .a + 32768) (now (c .before .before .before .before .before .args .file)))
+more : (c : tie.After-ends-in Inv-loop μ-loop) → lineEnds (now (c .before .before .before .before .before .args .file)) ≡ c .before .before .before .loop .count + c .ends-in .result + lineEnds (drop (c .before .before .before .loop .a + 128) (now (c .before .before .before .before .before .args .file)))
 more c =
     let a = c .before .before .before .loop .a in
-    omega (arith, ends-part (now (c .before .before .before .before .before .args .file)) a (a + 32768) (omega arith))
+    omega (arith, ends-part (now (c .before .before .before .before .before .args .file)) a (a + 128) (omega arith))
 
 add-count : tie.Need-add-count Inv-loop μ-loop
 add-count c = omega (arith, more c, ends-few (now (c .before .before .before .before .before .args .file)))
