@@ -40,16 +40,13 @@ use Rattle.columns.specs.Columns.{fieldOf, fieldIn, usageIn, recordId, site, re
 use Rattle.columns.proofs.Laws.{map-at, number-small, charge-bound, usage-bound}
 use Rattle.format.specs.Format.{lineAt}
 use Rattle.lists.proofs.Reflected.{both-of, denied, empty-is}
+use Rattle.fields.proofs.Read.{read-value}
 use Rattle.bill_files.specs.Accepted.{Bill, numberOrZero, numberOrNone, dayOrZero, senderIn, idIn, isPeriod, isBill, billIn, billsIn, billFile}
 use Rattle.lists.specs.Selections.{filter}
 use Rattle.bill_files.specs.InsideFits.{BillFits, FileFits, Distinct}
 use Rattle.bill_files.specs.Passing.{typeAt, idAt, Passing}
 
 -- ════ numbers that are read
-read-value : (x : Number) → isRead x ≡ true → (n : ℕ) × (x ≡ Value n)
-read-value (Value n) e = (n, refl)
-read-value Other e = absurd (true≢false (sym e))
-
 day-value : (x : Day) → isDay x ≡ true → (n : ℕ) × (x ≡ At n)
 day-value (At n) e = (n, refl)
 day-value NotADate e = absurd (true≢false (sym e))

@@ -19,6 +19,7 @@ use Rattle.format.specs.Format.{lineAt}
 use Rattle.bill_files.specs.Accepted.{Bill, isPeriod, isBill, billIn, billsIn, billFile}
 use Rattle.bill_files.specs.Passing.{Passing}
 use Rattle.bill_files.proofs.Accepted.{every-bill}
+use Rattle.lists.proofs.Selections.{either}
 
 pub bill-of-file : (lines : List (List ℕ)) (other : Bill) (k : ℕ) → k < length (billsIn lines)
     → (getD (billsIn lines) k other .sender ≡ billFile lines .sender) × (getD (billsIn lines) k other .fileId ≡ billFile lines .recordId)
@@ -96,10 +97,6 @@ module _ {retailer : ℕ} {distributors : List ℕ} {lines : List (List ℕ)} (p
     where
       period : typeIn (lineAt lines 2) ≡ TH → isBill (lineAt lines 2) ≡ true
       period e = ap (λ (b : Bool). b || eqb (typeIn (lineAt lines 2)) OC) (eq-eqb (typeIn (lineAt lines 2)) TH e)
-
-      either : (a b : Bool) → b ≡ true → (a || b) ≡ true
-      either true b e = refl
-      either false b e = e
 
       charge : typeIn (lineAt lines 2) ≡ OC → isBill (lineAt lines 2) ≡ true
       charge e = either (isPeriod (lineAt lines 2)) (eqb (typeIn (lineAt lines 2)) OC) (eq-eqb (typeIn (lineAt lines 2)) OC e)

@@ -12,7 +12,7 @@ use Prim.Native.Nat.{ℕ, suc, _+_, _<_}
 use native.Mathlib.Omega.{arith}
 use borrow.Author.Tests.{leb-true, le-leb}
 use lib.Dec.{eqb, leb, ltb}
-use lib.ListN.{length, length-map}
+use lib.ListN.{length}
 use Rattle.digits.specs.declared.Number.{Number}
 use Rattle.digits.specs.declared.Number.the-variants.{Value, Other}
 use Rattle.calendar.specs.declared.Day.{Day}
@@ -25,6 +25,7 @@ use Rattle.tables.proofs.RecordTypes.{parent-at, parent-before, parent-type-the
 use Rattle.format.specs.Format.{lineAt}
 use Rattle.refusals.specs.Check.{numbers, types, parentsOf}
 use Rattle.bill_files.specs.Passing.{typeAt, idAt, dateAt, isCancelAt, isOfType, Under, OfTypeUnder}
+use Rattle.refusals.proofs.Columns.{types-length}
 
 -- ---- columns, at a place
 -- the columns of IDs, and those of dates
@@ -69,12 +70,6 @@ module _ (lines : List (List ℕ)) (i : ℕ) (h : i < length lines) where
   pub cancel-at : at (numbers cancel lines) i ≡ marked (isCancelAt lines i)
   unfolding numberIn inColumn
   cancel-at = number-at cancel
-
-pub numbers-length : (column : ℕ) (lines : List (List ℕ)) → length (numbers column lines) ≡ length lines
-numbers-length column lines = length-map lines (numberIn column)
-
-pub types-length : (lines : List (List ℕ)) → length (types lines) ≡ length lines
-types-length lines = numbers-length recordType lines
 
 -- ---- equal numbers in columns are equal IDs and equal Indicators
 same-kept : (x y : Number) → numberInColumn x ≡ numberInColumn y → x ≡ y

@@ -34,10 +34,11 @@ use Rattle.refusals.specs.declared.Outcome.{Outcome}
 use Rattle.refusals.specs.Check.{numbers, types, charges, usages, sitesOf, parentsOf, onesOf, formatRefusals, orderRefusals, identityRefusals, headerRefusals, periodRefusals, siteRefusals, periodTotalRefusals, trailerRefusals, childRefusals, totalRefusals, columnRefusals, testRefusals, settingsFit, isTooLarge, checkRefusals, checkOf}
 use Rattle.refusals.specs.Refusals.{passed, firstRefusal}
 use Rattle.bill_files.specs.Passing.{idAt, dateAt, isCancelAt, Under, OfTypeUnder, Chosen, Passing}
-use Rattle.bill_files.proofs.Lines.{type-at, date-kept, kept-date, cancel-at, numbers-length, types-length, same-marked, same-ids, same-cancels, under-is, type-under-is, picked-size}
+use Rattle.bill_files.proofs.Lines.{type-at, date-kept, kept-date, cancel-at, same-marked, same-ids, same-cancels, under-is, type-under-is, picked-size}
 use Rattle.refusals.proofs.Outcomes.{check-numbered}
 use Rattle.refusals.proofs.Refusals.{NoneOf, none-passes, passes-none, record-none, none-record, appliesAt, applies-at}
 use Rattle.bill_files.proofs.Sums.{site-totals, own-totals, file-totals}
+use Rattle.refusals.proofs.Columns.{numbers-length, types-length}
 
 abbrev periodsOf : List (List ℕ) → PeriodColumns
 periodsOf lines = periodColumns (types lines) (numbers site lines) (numbers startDay lines) (numbers endDay lines) (numbers cancel lines)

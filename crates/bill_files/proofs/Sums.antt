@@ -29,7 +29,8 @@ use Rattle.totals.specs.Totals.{amountAt, groupSum}
 use Rattle.totals.proofs.Meaning.{TotalsRight}
 use Rattle.refusals.specs.Check.{numbers, types, sitesOf, parentsOf, placesOf, onesOf}
 use Rattle.bill_files.specs.Passing.{typeAt, idAt, sumOf, isOfType, isOfSite, isOwn}
-use Rattle.bill_files.proofs.Lines.{id-at, types-length, picked-size, picked-is}
+use Rattle.bill_files.proofs.Lines.{id-at, picked-size, picked-is}
+use Rattle.refusals.proofs.Columns.{types-length}
 
 -- ---- one type
 only-type : (t a : ℕ) → (leb a t && leb t a ≡ true) ↔ (t ≡ a)

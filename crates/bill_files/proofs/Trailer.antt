@@ -12,7 +12,7 @@ use native.Mathlib.Omega.{arith}
 use borrow.Author.Tests.{eq-eqb, ne-eqb, eqb-true, eqb-false, le-leb, lt-leb, leb-true}
 use lib.Dec.{eqb, leb}
 use lib.ListN.{length}
-use lib.IntN.{ℤ, pos, _+ℤ_, +ℤ-idl, +ℤ-idr, +ℤ-assoc, +ℤ-comm}
+use lib.IntN.{ℤ, pos, _+ℤ_, +ℤ-idl, +ℤ-idr, +ℤ-assoc}
 use Rattle.tables.specs.Types.{FH, TH, CH, OC, FT, mayFollow, parentType}
 use Rattle.records.specs.Records.{typeIn}
 use Rattle.columns.specs.Columns.{chargeIn}
@@ -23,12 +23,13 @@ use Rattle.format.specs.Format.{lineAt}
 use Rattle.identity.proofs.Meaning.{every-parent}
 use Rattle.totals.specs.Totals.{amountAt, groupSum}
 use Rattle.totals.specs.InsideSums.{groupsSum}
-use Rattle.totals.proofs.Laws.{sum-same, sum-none, sum-split}
+use Rattle.totals.proofs.Laws.{sum-same, sum-none, sum-split, crossed}
 use Rattle.refusals.specs.Check.{types, charges, parentsOf, placesOf, onesOf}
 use Rattle.bill_files.specs.Accepted.{isPeriod, isBill, billIn, billsIn, billFile, sumOfCharges}
 use Rattle.lists.specs.Selections.{filter}
 use Rattle.bill_files.specs.Passing.{typeAt, Under, Passing}
-use Rattle.bill_files.proofs.Lines.{type-at, under-is, type-under-is, picked-size, types-length}
+use Rattle.bill_files.proofs.Lines.{type-at, under-is, type-under-is, picked-size}
+use Rattle.refusals.proofs.Columns.{types-length}
 use Rattle.bill_files.proofs.Sums.{own-totals, file-totals}
 
 -- ════ the charges of the lines that a test picks
@@ -69,12 +70,6 @@ sum-marks pick (line ∷ lines) =
 -- one test, as two that never hold together
 Parted : (a b c : List ℕ → Bool) → Type 0
 Parted a b c = (line : List ℕ) (x : ℤ) → cond (c line) x (pos 0) ≡ cond (a line) x (pos 0) +ℤ cond (b line) x (pos 0)
-
-crossed : (a b c d : ℤ) → (a +ℤ b) +ℤ (c +ℤ d) ≡ (a +ℤ c) +ℤ (b +ℤ d)
-crossed a b c d =
-    +ℤ-assoc a b (c +ℤ d)
-    ∙ ap (λ (z : ℤ). a +ℤ z) (sym (+ℤ-assoc b c d) ∙ ap (λ (z : ℤ). z +ℤ d) (+ℤ-comm b c) ∙ +ℤ-assoc c b d)
-    ∙ sym (+ℤ-assoc a c (b +ℤ d))
 
 sum-apart : (a b c : List ℕ → Bool) → Parted a b c → (lines : List (List ℕ)) → sumWhere c lines ≡ sumWhere a lines +ℤ sumWhere b lines
 unfolding sumWhere Parted

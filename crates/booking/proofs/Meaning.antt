@@ -99,7 +99,7 @@ test-102 l file =
 abbrev pub NamesOne : Bill → List Entry → Type 0
 NamesOne c l = (i j : ℕ) → i < j → j < length l → namesEntry c (entryOf l i) ≡ true → namesEntry c (entryOf l j) ≡ true → ⊥
 
-cancelled-unnamed : (c : Bill) (e : Entry) → namesEntry c (inState e 3) ≡ false
+pub cancelled-unnamed : (c : Bill) (e : Entry) → namesEntry c (inState e 3) ≡ false
 unfolding namesEntry
 cancelled-unnamed c e = refl
 

@@ -9,7 +9,7 @@ use mathlib.Core.Option.{Option, none, some}
 use Prim.Native.Nat.{ℕ, _≤_}
 use native.Mathlib.Omega.{arith}
 use borrow.Author.Tests.{eqb-true, eq-eqb}
-use Rattle.lists.proofs.Selections.{and-left, and-right, and-both}
+use Rattle.lists.proofs.Selections.{and-left, and-right, and-both, either}
 use Rattle.bill_files.specs.Accepted.{Bill}
 use Rattle.entries.specs.declared.Entry.{Entry}
 use Rattle.entries.specs.Entries.{isLive, isHeld, inState}
@@ -34,10 +34,6 @@ standing-means e = (go (isLive e) (isHeld e) refl refl, λ h. ⊎-elim live held
 
     live : e .state ≡ 1 → isLiveOrHeld e ≡ true
     live s = ap (λ (b : Bool). b || isHeld e) (eq-eqb (e .state) 1 s)
-
-    either : (a b : Bool) → b ≡ true → (a || b) ≡ true
-    either true b t = refl
-    either false b t = t
 
     held : e .state ≡ 2 → isLiveOrHeld e ≡ true
     held s = either (isLive e) (isHeld e) (eq-eqb (e .state) 2 s)

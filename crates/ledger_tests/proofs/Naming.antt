@@ -30,6 +30,7 @@ use Rattle.soundness.specs.Sound.{sameSubject}
 use Rattle.booking.specs.Booking.{entry, namesEntry, refersTo, isLiveOrHeld, namedEntry, cancelNamed, firstCancel, isUnnamed}
 use Rattle.booking.specs.Acceptable.{billAt}
 use Rattle.booking.proofs.Added.{length-cancelled}
+use Rattle.booking.proofs.Meaning.{cancelled-unnamed}
 use Rattle.used_entries.specs.InsideSearches.{referenceOf, namesAs, namedFirst}
 use Rattle.file_bills.specs.InsideBills.{sourceEntry, isCancel, referenceInColumn}
 use Rattle.file_bills.proofs.Sources.{source-cancel, source-as}
@@ -61,11 +62,6 @@ names-same : (b : Bill) (e : Entry) → namesAs (referenceInColumn (b .reference
 unfolding namesAs namesEntry
 names-same b e = ap (λ (r : Option ℕ). isLiveOrHeld e && refersTo r (e .id) && sameSubject (entry b 4) e) (reference-back (b .reference))
 
--- a cancelled entry is named by none
-names-not : (b : Bill) (e : Entry) → namesEntry b (inState e 3) ≡ false
-unfolding namesEntry
-names-not b e = refl
-
 -- the first place by a test of places, and the first element by a test that agrees with it
 first-where : {A : Type 0} (f : A → Bool) (l : List A) (d : A) (test : ℕ → Bool) (n : ℕ) → length l ≡ n → ((p : ℕ) → p < n → f (getD l p d) ≡ test p) → firstBelow test n ≡ firstWhere f l
 first-where f l d test n long same = sym (go (decLt (firstBelow test n) n))
@@ -94,7 +90,7 @@ module _ (words : List ℕ) (amounts : List ℤ) (n : ℕ) (now : List Entry) (m
     where
       go : (t : Bool) → namesEntry b (cond t (entryOf l p) (inState (entryOf l p) 3)) ≡ (t && namesEntry b (entryAt words amounts p))
       go true = ap (namesEntry b) (entry-of words amounts n p h)
-      go false = names-not b (entryOf l p)
+      go false = cancelled-unnamed b (entryOf l p)
 
   named-is : namedFirst words amounts n marks (referenceInColumn (b .reference)) (entry b 4) ≡ firstWhere (namesEntry b) now
   unfolding namedFirst

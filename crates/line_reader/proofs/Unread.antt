@@ -9,7 +9,7 @@
 -- Assumes nothing.
 use mathlib.Core.Path.{_≡_, refl, sym, _∙_, ap}
 use mathlib.Core.List.{List, []}
-use mathlib.Core.Bool.{Bool, true, false, not, _||_, false≢true, true≢false}
+use mathlib.Core.Bool.{Bool, true, false, not, _||_, false≢true}
 use mathlib.Core.Logic.{inr}
 use Prim.Native.Nat.{ℕ, _≤_, _<_}
 use native.Mathlib.Omega.{arith}
@@ -18,6 +18,7 @@ use borrow.Author.Tests.{le-leb, lt-leb, ne-eqb, eq-eqb}
 use lib.Dec.{eqb, leb}
 use lib.ListN.{length, getD, List·getD-eq-default}
 use Rattle.lists.specs.Below.{firstBelow, someBelow}
+use Rattle.lists.proofs.Selections.{neither}
 use Rattle.lists.proofs.Below.{first-holds, first-least, first-is, none-below, none-is-end, some-is, none-some}
 use Rattle.records.specs.Text.{fieldsOf}
 use Rattle.tables.specs.Types.{typeNamed}
@@ -136,13 +137,9 @@ module _ (line : List ℕ) where
       go (no l) = unknown-type (omega (arith, l))
 
 -- ---- a line that passes
-neither-true : (a b : Bool) → a || b ≡ false → (a ≡ false) × (b ≡ false)
-neither-true true b e = absurd (true≢false e)
-neither-true false b e = (refl, e)
-
 pub read-passes : (line : List ℕ) → unread line ≡ false → (unformatted line ≡ false) × (someField unfit line ≡ false)
 unfolding unread
-read-passes line e = neither-true (unformatted line) (someField unfit line) e
+read-passes line e = neither (unformatted line) (someField unfit line) e
 
 -- ---- the first line that fails a test, by those before it
 module _ (fails : List ℕ → Bool) (lines : List (List ℕ)) (i : ℕ) (before : (j : ℕ) → j < i → fails (lineAt lines j) ≡ false) where

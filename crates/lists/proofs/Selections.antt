@@ -48,6 +48,14 @@ pub neither : (a b : Bool) → (a || b) ≡ false → (a ≡ false) × (b ≡ fa
 neither true b e = (e, absurd (true≢false e))
 neither false b e = (refl, e)
 
+pub either : (a b : Bool) → b ≡ true → (a || b) ≡ true
+either true b e = refl
+either false b e = e
+
+pub second-of : (a b : Bool) → a ≡ false → (a || b) ≡ true → b ≡ true
+second-of true b e o = absurd (true≢false e)
+second-of false b e o = o
+
 -- a test that goes both ways, with what each way says
 pub cases {ℓ} : {P : Type ℓ} (b : Bool) → (b ≡ true → P) → (b ≡ false → P) → P
 cases true f g = f refl

@@ -5,7 +5,7 @@
 -- Assumes nothing.
 use mathlib.Core.Path.{_≡_, refl, sym, _∙_, ap, subst}
 use mathlib.Core.List.{List, [], _∷_}
-use mathlib.Core.Bool.{Bool, true, false, _||_}
+use mathlib.Core.Bool.{Bool, true, false}
 use Prim.Native.Nat.{ℕ, zero, suc, _+_, _-_, _≤_, _<_, zero-le}
 use native.Mathlib.Omega.{arith}
 use borrow.Author.Tests.{leb-true, leb-false, lt-leb, eqb-true}
@@ -23,6 +23,7 @@ use Rattle.readings.specs.InsideLeadingBytes.{fieldEnd, leadingField, Al
 use Rattle.readings.proofs.Ends.{field-length, end-ends, end-after, end-more, digits-before, same-byte, next-inside}
 use Rattle.readings.proofs.Runs.{run-longest}
 use Rattle.readings.proofs.Magnitudes.{not-point}
+use Rattle.lists.proofs.Selections.{second-of}
 
 pub told-not : (b : Bool) → (b ≡ true → ⊥) → b ≡ false
 told-not true h = absurd (h refl)
@@ -108,11 +109,7 @@ module _ (s : List ℕ) (p whole scale : ℕ) (inside : p ≤ length s) (d : all
     after-length = rw after (length-take-le rest (drop (p + 1) s) rest-inside)
 
     shown : isPlaces scale (placesPart t) ≡ true
-    shown = second (noPoint t) (isPlaces scale (placesPart t)) (lt-leb (length t) (pointOf t) (omega (arith, whole-is, field-length s, past))) (shape .rest)
-      where
-        second : (x y : Bool) → x ≡ false → x || y ≡ true → y ≡ true
-        second true y e o = absurd (let z : _≡_ {A = ℕ} 0 1 = cc in omega arith)
-        second false y e o = o
+    shown = second-of (noPoint t) (isPlaces scale (placesPart t)) (lt-leb (length t) (pointOf t) (omega (arith, whole-is, field-length s, past))) (shape .rest)
 
     pub places-are : (1 ≤ run .len) × (run .len ≤ scale) × (p + 1 + run .len ≡ fieldEnd s)
     places-are =

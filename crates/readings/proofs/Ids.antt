@@ -33,14 +33,11 @@ use Rattle.readings.proofs.Runs.{run-bound}
 use Rattle.readings.specs.InsideReadings.{Says, FieldRead}
 use Rattle.readings.proofs.Fields.{fits-empty, fits-filled, empty-says, field-read}
 use Rattle.readings.proofs.Missed.{filled-not, fixed-id, fixed-length}
-
-or-second : (a b : Bool) → a ≡ false → a || b ≡ true → b ≡ true
-or-second true b e o = absurd (let z : _≡_ {A = ℕ} 0 1 = cc in omega arith)
-or-second false b e o = o
+use Rattle.lists.proofs.Selections.{second-of}
 
 pub filled-fits : (t : FieldType) (f : List ℕ) → 1 ≤ length f → fitsType t f ≡ true → fitsFilled t f ≡ true
 unfolding fitsType
-filled-fits t f h e = or-second (eqb (length f) 0) (fitsFilled t f) (ne-eqb (length f) 0 (λ z. omega (arith, h, z))) e
+filled-fits t f h e = second-of (eqb (length f) 0) (fitsFilled t f) (ne-eqb (length f) 0 (λ z. omega (arith, h, z))) e
 
 -- ---- the digits of a field
 module _ (s : List ℕ) (t : Run) (run : DigitsRead s t) where

@@ -15,8 +15,8 @@ use lib.Dec.{eqb, leb}
 use lib.ListN.{length}
 use Rattle.lists.specs.First.{isByte}
 use Rattle.lists.proofs.First.{first-le}
-use Rattle.digits.specs.declared.Number.{Number}
-use Rattle.digits.specs.declared.Number.the-variants.{Value, Other}
+use Rattle.fields.proofs.Read.{read-value}
+use Rattle.digits.specs.declared.Number.the-variants.{Other}
 use Rattle.digits.specs.Digits.{digitsOf, fixedDigitsOf}
 use Rattle.digits.proofs.Laws.{digits-say}
 use Rattle.fields.specs.declared.FieldType.{FieldType}
@@ -42,10 +42,6 @@ unfolding fitsType
 filled-not t f h e = rw (ne-eqb (length f) 0 (λ z. omega arith), e)
 
 -- ---- IDs
-read-value : (x : Number) → isRead x ≡ true → (n : ℕ) × (x ≡ Value n)
-read-value (Value n) e = (n, refl)
-read-value Other e = absurd (let z : _≡_ {A = ℕ} 0 1 = cc in omega arith)
-
 pub id-ends : (s : List ℕ) (r : Run) → AllRead s r → fitsType RecordId (leadingField s) ≡ true → r .len ≡ fieldEnd s
 id-ends s r a f =
     let least = digits-before s (r .len) (a .read .inside) (a .read .digits) in

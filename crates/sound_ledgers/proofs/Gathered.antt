@@ -4,7 +4,6 @@
 --     live-meeting     where two meet, the ledger is not sound
 -- Assumes nothing.
 use mathlib.Core.Path.{_≡_, sym, ap}
-use mathlib.Core.Logic.{_↔_}
 use mathlib.Core.List.{List}
 use mathlib.Core.Bool.{Bool, true, false, cond}
 use Prim.Native.Nat.{ℕ, _+_, _<_}
@@ -15,9 +14,9 @@ use Rattle.apart.specs.InsideGathered.{dayNumber, Gathering}
 use Rattle.apart.proofs.Gathering.{gathering-more, gathering-skip, gathering-kept, gathering-same, days-apart, days-meet}
 use Rattle.entries.specs.declared.Entry.{Entry}
 use Rattle.entries.specs.Entries.{entryOf}
-use Rattle.soundness.specs.Meaning.{EntryFits, LivePeriod, Sound}
+use Rattle.soundness.specs.Meaning.{EntryFits, Sound}
 use Rattle.soundness.specs.Sound.{isLivePeriod}
-use Rattle.soundness.proofs.Tests.{equal, both}
+use Rattle.soundness.proofs.Meaning.{live-means}
 use Rattle.sound_ledgers.specs.InsideLivePeriods.{liveAt, firstDay, lastDay, LiveApart}
 
 module _ (es : List Entry) where
@@ -41,9 +40,6 @@ module _ (es : List Entry) where
       (ap (λ (x : Entry). dayNumber (x .site) (x .start)) is)
       (ap (λ (x : Entry). dayNumber (x .site) (x .end)) is)
       (ap isLivePeriod (sym is)))
-
-live-means : (e : Entry) → (isLivePeriod e ≡ true) ↔ LivePeriod e
-live-means e = both (equal (e .state) 1) (equal (e .kind) 2)
 
 pub live-apart : (es : List Entry) (used : ℕ) (firsts lasts : List ℕ) (count : ℕ) → Gathering (liveAt es) (firstDay es) (lastDay es) firsts lasts used count
     → Apart firsts lasts count → LiveApart es used

@@ -75,6 +75,9 @@ entry-means e =
           ),
     )
 
+pub live-means : (e : Entry) → (isLivePeriod e ≡ true) ↔ LivePeriod e
+live-means e = both (equal (e .state) 1) (equal (e .kind) 2)
+
 -- ---- the sentences that look at two entries
 pub alike-means : (a b : Entry) → (sameSubject a b ≡ true) ↔ Alike a b
 alike-means a b =
@@ -153,11 +156,8 @@ module _ (es : List Entry) where
   clash-means i =
       none-means (λ (j : ℕ). clash (entryOf es j) (entryOf es i)) (λ (j : ℕ). Clash (entryOf es j) (entryOf es i))
       (λ j.
-      both (both (both (live (entryOf es j)) (live (entryOf es i))) (equal (entryOf es j .site) (entryOf es i .site)))
+      both (both (both (live-means (entryOf es j)) (live-means (entryOf es i))) (equal (entryOf es j .site) (entryOf es i .site)))
       (shares-day (period (entryOf es j)) (period (entryOf es i)))) i
-    where
-      live : (e : Entry) → (isLivePeriod e ≡ true) ↔ LivePeriod e
-      live e = both (equal (e .state) 1) (equal (e .kind) 2)
 
   -- ---- cancels and cancelled entries
   -- a pair as the tests find it: the cancel is the first of those that name the same

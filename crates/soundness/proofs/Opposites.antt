@@ -10,17 +10,13 @@ use lib.IntN.{ℤ, pos, negsuc, negℤ, _+ℤ_, _-ℤ_, +ℤ-idl}
 use mir.Syntax.{w64}
 use mir.Val.{SFits, toZ, ofZ}
 use mir.Facts.{toZ-ofZ}
+use Rattle.lists.proofs.Reflected.{alike}
 use Rattle.lists.proofs.Signed.{pos-fits, neg-fits}
 use Rattle.soundness.specs.Sound.{isZero}
 use Rattle.soundness.proofs.Opposite.{opposite-sum}
 
 least : ℤ
 least = negsuc 9223372036854775807
-
-same-test : (s t : Bool) → (s ≡ true → t ≡ true) → (t ≡ true → s ≡ true) → s ≡ t
-same-test true t to from = sym (to refl)
-same-test false true to from = from refl
-same-test false false to from = refl
 
 module _ (a b : ℤ) (ha : SFits w64 a) (hb : SFits w64 b) where
   -- the least number has no opposite of 64 bits
@@ -48,7 +44,7 @@ module _ (a b : ℤ) (ha : SFits w64 a) (hb : SFits w64 b) where
 
     pub opposite-test : eqb (ofZ w64 (pos 0 -ℤ toZ w64 (ofZ w64 a))) (ofZ w64 b) ≡ isZero (a +ℤ b)
     opposite-test =
-        same-test (eqb (ofZ w64 (pos 0 -ℤ toZ w64 (ofZ w64 a))) (ofZ w64 b)) (isZero (a +ℤ b))
+        alike (eqb (ofZ w64 (pos 0 -ℤ toZ w64 (ofZ w64 a))) (ofZ w64 b)) (isZero (a +ℤ b))
         (λ e. opposite-sum a b .1
         (sym (toZ-ofZ {w = w64} hb) ∙ ap (toZ w64) (sym (eqb-true (ofZ w64 (pos 0 -ℤ toZ w64 (ofZ w64 a))) (ofZ w64 b) e)) ∙ toZ-ofZ {w = w64} opposite-fits ∙ is-opposite))
         (λ e. eq-eqb (ofZ w64 (pos 0 -ℤ toZ w64 (ofZ w64 a))) (ofZ w64 b) (ap (ofZ w64) (is-opposite ∙ sym (opposite-sum a b .0 e))))

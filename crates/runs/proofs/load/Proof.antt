@@ -4,7 +4,7 @@
 --     less, over   a turn that copies an entry, and the turn that leaves the loop, with the rest of the body
 -- Assumes nothing.
 use mathlib.Core.Path.{_≡_, refl, sym, subst, _∙_}
-use Prim.Native.Nat.{ℕ, _+_, _-_, _*_, _≤_, _<_, _^_, zero-le}
+use Prim.Native.Nat.{ℕ, _+_, _-_, _≤_, _<_, _^_, zero-le}
 use native.Mathlib.Nat.{lt-of-le-of-lt, lt-of-lt-of-le}
 use native.Mathlib.Numerals.{add-one-le, add-one-dec}
 use native.Mathlib.Omega.{arith}
@@ -56,7 +56,7 @@ use Rattle.entries.proofs.Room.{room-fewer, room-same}
 use Rattle.soundness.specs.InsideRoom.{readCount}
 use Rattle.runs.proofs.Laws.{read-le, read-cap, taken}
 use Rattle.lists.proofs.Selections.{is-true, is-false}
-use Rattle.runs.proofs.Turn.{tyAt, test}
+use Rattle.runs.proofs.Turn.{tyAt, test, offset-fits}
 use Rattle.runs.proofs.Called.{Count, SetEntry, read-count-got, read-count-called, set-entry-got, set-entry-called}
 use Rattle.entries.proofs.Entry as T
 use Rattle.entries.proofs.Entry.Laws as T′
@@ -104,10 +104,6 @@ Wide n m₁ m₂ = (ns : List ℕ) (zs : List ℤ) → length ns ≡ m₁ → le
 -- so they have room for each entry
 within : (n m₁ m₂ i : ℕ) (ns : List ℕ) (zs : List ℤ) → Wide n m₁ m₂ → i < n → length ns ≡ m₁ → length zs ≡ m₂ → RoomFor (i + 1) ns zs
 within n m₁ m₂ i ns zs wide h e₁ e₂ = room-fewer (add-one-le h) (wide ns zs e₁ e₂)
-
--- the byte offset of an element of the slice fits a usize
-offset-fits : (i n : ℕ) → i < n → n * 88 < 2 ^ 63 → i * 88 < 2 ^ 64
-offset-fits i n l room = omega arith
 
 -- one entry more
 abbrev next : (ys : List Entry) (used m₁ m₂ : ℕ) → Wide (count ys used) m₁ m₂ → (t : State ys used m₁ m₂) → t .i < count ys used → State ys used m₁ m₂

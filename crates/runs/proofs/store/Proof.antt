@@ -4,12 +4,12 @@
 --     less, over   a turn that copies an entry, or finds it there, and the turn that leaves the loop, with the rest of the body
 -- Assumes nothing.
 use mathlib.Core.Path.{_≡_, refl, sym, ap, subst, _∙_}
-use Prim.Native.Nat.{ℕ, _+_, _-_, _*_, _≤_, _<_, _^_}
+use Prim.Native.Nat.{ℕ, _+_, _-_, _≤_, _<_, _^_}
 use native.Mathlib.Nat.{le-refl, le-antisymm, lt-of-le-of-lt, lt-of-lt-of-le}
 use native.Mathlib.Numerals.{add-one-le, add-one-dec}
 use native.Mathlib.Omega.{arith}
 use mathlib.Core.WellFounded.{WellFounded, InvImage·wf}
-use mathlib.Core.Bool.{Bool, true, false, not}
+use mathlib.Core.Bool.{Bool, true, not}
 use mathlib.Core.List.{List, [], _∷_}
 use lib.IntN.{ℤ}
 use lib.ListN.{length, getD, set, length-set, drop}
@@ -58,7 +58,7 @@ use Rattle.entries.proofs.Words.{length-entries, entry-of}
 use Rattle.runs.specs.InsideCopies.{placed}
 use Rattle.runs.proofs.Laws.{placed-is}
 use Rattle.lists.proofs.Selections.{is-true, is-false}
-use Rattle.runs.proofs.Turn.{tyAt, test}
+use Rattle.runs.proofs.Turn.{tyAt, test, offset-fits}
 use Rattle.runs.proofs.Called.{Differ, differ-got, differ-called, EntryAt, entry-at-got, entry-at-called}
 use Rattle.entries.proofs.Entry as T
 use Rattle.entries.proofs.Entry.Laws as T′
@@ -104,10 +104,6 @@ Asked f n m₀ ns zs = (f ≤ n) × (n ≤ m₀) × RoomFor n ns zs
 -- so they have room for each entry
 within : (f n m₀ i : ℕ) (ns : List ℕ) (zs : List ℤ) → Asked f n m₀ ns zs → i < n → RoomFor (i + 1) ns zs
 within f n m₀ i ns zs asked h = room-fewer (add-one-le h) (asked .2)
-
--- the byte offset of an element of the slice fits a usize
-offset-fits : (i n : ℕ) → i < n → n * 88 < 2 ^ 63 → i * 88 < 2 ^ 64
-offset-fits i n l room = omega arith
 
 -- the entries that are not reached yet are as they were
 rest-of : (l ys : List Entry) (i : ℕ) (e : Entry) → drop i l ≡ drop i ys → drop (i + 1) (set l i e) ≡ drop (i + 1) ys
