@@ -1,4 +1,4 @@
--- Which places of the run Book writes.
+-- Which places of the run Book looks at when it is done: it writes those that have another entry.
 -- Assumes nothing.
 use mathlib.Core.Bool.{_&&_, cond}
 use mathlib.Core.List.{List}
@@ -9,7 +9,7 @@ use Rattle.entries.specs.declared.Entry.{Entry}
 use Rattle.entries.specs.Entries.{blank}
 use Rattle.lent_ledger.specs.declared.BookReply.{BookReply}
 
--- ---- the places that are written
+-- ---- the places that are looked at
 -- up to which place: of a refusal none
 abbrev pub writtenTo : BookReply → ℕ → ℕ
 writtenTo reply used = cond (eqb (reply .number) 0) (used + reply .added) 0

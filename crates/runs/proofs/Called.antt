@@ -6,7 +6,7 @@
 -- Assumes `Given`, that the table of calls is monotone under a frame, and that its entry meets the callee's contract.
 use mathlib.Core.Path.{_≡_, refl, subst, ap, _∙_}
 use Prim.Native.Nat.{ℕ, _+_, _<_, _^_}
-use mathlib.Core.Bool.{Bool, false}
+use mathlib.Core.Bool.{Bool, true, false}
 use mathlib.Core.List.{[], _∷_, List}
 use lib.IntN.{ℤ}
 use lib.ListN.{length}
@@ -98,6 +98,9 @@ module _ {M : Type 1} (𝓤 : URA M) (H : Heap 𝓤) (A : Atoms 𝓤) (W : Given
     abbrev Differs : Val → Bool → Type 0
     Differs w y = (w ≡ vbool y) × (y ≡ false → one ≡ other)
 
+    abbrev Told : Bool → Type 0
+    Told x = (x ≡ false → one ≡ other) × (x ≡ true → one ≡ other → ⊥)
+
     abbrev pub differ-got : Val → Item 𝓤
     differ-got w = later (some (λ (y : Bool). given (Differs w y) (‵ ftrue)))
 
@@ -116,9 +119,9 @@ module _ {M : Type 1} (𝓤 : URA M) (H : Heap 𝓤) (A : Atoms 𝓤) (W : Given
     gives₀ w =
         qed W (raw (Differ 𝓤 H A mem run .post to₀ w) ∷ []) ∵ updating ! $
         use1 W (later (some (λ (x : Bool). (‵ ftrue ⊛ ‵ (bool .own x (w ∷ []))) ⊛ raw (ensured 𝓤 H A differ.ended (differ.clauses 𝓤 H A mem run) tt (one, (other, tt)) tt x)))) (id⊢ 𝓤 _) $ await ! tt $ pick ! (λ x.
-        split ! $ move ! (1 ∷ []) $ use1 W (raw (fact 𝓤 (x ≡ false → one ≡ other))) (exE 𝓤 _ (λ ws. snd∗ 𝓤 (sem 𝓤 H A (lasts differ.ended tt (one, (other, tt)) ws)) (fact 𝓤 (x ≡ false → one ≡ other)))) $ heard ! (x ≡ false → one ≡ other) (λ is.
+        split ! $ move ! (1 ∷ []) $ use1 W (raw (fact 𝓤 (Told x))) (exE 𝓤 _ (λ ws. snd∗ 𝓤 (sem 𝓤 H A (lasts differ.ended tt (one, (other, tt)) ws)) (fact 𝓤 (Told x)))) $ heard ! (Told x) (λ is.
         split ! $ move ! (1 ∷ []) $ facts ! bool (Is bool) (shows 𝓤 H A bool) x (w ∷ []) (λ p.
-        at-once ! $ show ! (λ (y : Bool). mean 𝓤 H A (given (Differs w y) (‵ ftrue))) x $ check ! (ap only p, is) $ done !)))
+        at-once ! $ show ! (λ (y : Bool). mean 𝓤 H A (given (Differs w y) (‵ ftrue))) x $ check ! (ap only p, is .0) $ done !)))
 
     pub differ-called : Is T.the-row one (v₁ ∷ []) → Is T.the-row other (v₂ ∷ []) → ent 𝓤 (emp 𝓤) (C #runs·differ (v₁ ∷ v₂ ∷ []) (λ w. mean 𝓤 H A (differ-got w)))
     differ-called g₁ g₂ = cites 𝓤 H A W C fm #runs·differ (Differ 𝓤 H A mem run) known to₀ (asks₀ g₁ g₂) (λ w. mean 𝓤 H A (differ-got w)) gives₀

@@ -1,6 +1,6 @@
 // A lent run of entries, and the words that the ledger's functions work on: what is copied from the one to the other, and back.
 ghost use mathlib.Core.Path.{_≡_};
-ghost use mathlib.Core.Bool.{false};
+ghost use mathlib.Core.Bool.{true, false};
 ghost use Prim.Native.Nat.{_≤_};
 ghost use lib.ListN.{length, take};
 ghost use Rattle.entries.specs.InsideWords.{RoomFor, entriesOf};
@@ -23,7 +23,7 @@ pub fn load(run: &[Entry], used: usize, words: &mut [u64], amounts: &mut [i64])
 
 // Whether two entries differ in a field. There is no early exit, so that many fields are compared at once.
 fn differ(one: Entry, other: Entry) -> bool
-    ensures { λ r. ⌜ (r ≡ false → one ≡ other) ⌝ }
+    ensures { λ r. ⌜ (r ≡ false → one ≡ other) × (r ≡ true → one ≡ other → ⊥) ⌝ }
 {
     let of_another = (one.sender != other.sender) | (one.commodity != other.commodity);
     let another = (one.kind != other.kind) | (one.id != other.id) | (one.site != other.site);

@@ -1,14 +1,14 @@
--- `runs::differ` meets its contract: entries that differ in no field are the same.
+-- `runs::differ` meets its contract: entries that differ in no field are the same, and an entry differs from itself in none.
 -- Assumes nothing.
 use Prim.Native.Nat.{ℕ}
-use mathlib.Core.Path.{_≡_, sym, ap, _∙_}
-use mathlib.Core.Bool.{Bool, false, not, _||_}
+use mathlib.Core.Path.{_≡_, refl, sym, ap, _∙_}
+use mathlib.Core.Bool.{Bool, false, not, _||_, true≢false}
 use mir.Val.{toZ, ofZ}
 use mir.Syntax.{w64}
 use lib.Dec.{eqb}
 use lib.IntN.{ℤ}
 use Rattle.entries.specs.declared.Entry.{Entry}
-use borrow.Author.Tests.{eqb-true, not-false}
+use borrow.Author.Tests.{eqb-true, eq-eqb, not-false}
 use borrow.Author.Needs.{needs}
 use Rattle.lists.proofs.Selections.{neither}
 use Rattle.runs.proofs.differ.Statement.{statement}
@@ -23,6 +23,9 @@ equal m n e = eqb-true m n (not-false (eqb m n) e)
 -- an amount, from its 64 bits
 same-amount : (y z : ℤ) → toZ w64 (ofZ w64 y) ≡ y → toZ w64 (ofZ w64 z) ≡ z → unlike (ofZ w64 y) (ofZ w64 z) ≡ false → y ≡ z
 same-amount y z held held′ e = sym held ∙ ap (toZ w64) (equal (ofZ w64 y) (ofZ w64 z) e) ∙ held′
+
+self : (n : ℕ) → unlike n n ≡ false
+self n = ap not (eq-eqb n n refl)
 
 module _ (a b : Entry) where
   abbrev of-another : Bool
@@ -40,7 +43,11 @@ module _ (a b : Entry) where
   abbrev in-another-state : Bool
   in-another-state = unlike (a .state) (b .state) || unlike (a .cancels) (b .cancels)
 
-  module _ (none : (((of-another || another) || of-other-days) || of-other-amounts) || in-another-state ≡ false) where
+  -- what is answered
+  abbrev unlike-entries : Bool
+  unlike-entries = (((of-another || another) || of-other-days) || of-other-amounts) || in-another-state
+
+  module _ (none : unlike-entries ≡ false) where
     last : (((of-another || another) || of-other-days) || of-other-amounts ≡ false) × (in-another-state ≡ false)
     last = neither _ in-another-state none
 
@@ -76,6 +83,10 @@ module _ (a b : Entry) where
           cancels = equal (a .cancels) (b .cancels) (state .1) t;
         }
 
+itself : (a : Entry) → unlike-entries a a ≡ false
+itself a =
+    rw (self (a .sender), self (a .commodity), self (a .kind), self (a .id), self (a .site), self (a .start), self (a .end), self (ofZ w64 (a .charge)), self (ofZ w64 (a .usage)), self (a .state), self (a .cancels))
+
 -- 64 bits hold the amounts
 charge-kept : (c : tie.After-struct-known22) → let a = c .before .before .before .before .before .before .before .before .before .before .before .before .before .before .before .before .before .before .before .before .before .before .before .before .before .before .args in toZ w64 (ofZ w64 (a .one .charge)) ≡ a .one .charge
 charge-kept c = search (needs, c .before .before .before .before .before .before .before .before .before .before .struct-told .given)
@@ -90,7 +101,11 @@ usage′-kept : (c : tie.After-struct-known22) → let a = c .before .before .be
 usage′-kept c = search (needs, c .before .before .before .before .struct-told4 .given)
 
 returns : tie.Need-returns
-returns c none = let a = c .before .before .before .before .before .before .before .before .before .before .before .before .before .before .before .before .before .before .before .before .before .before .before .before .before .before .args in same (a .one) (a .other) none (charge-kept c) (charge′-kept c) (usage-kept c) (usage′-kept c)
+returns c =
+    let a = c .before .before .before .before .before .before .before .before .before .before .before .before .before .before .before .before .before .before .before .before .before .before .before .before .before .before .args in (
+      λ none. same (a .one) (a .other) none (charge-kept c) (charge′-kept c) (usage-kept c) (usage′-kept c),
+      λ some e. true≢false (sym some ∙ ap (unlike-entries (a .one)) (sym e) ∙ itself (a .one)),
+    )
 
 pub differ-spec : {M : Type 1} → statement M
 differ-spec = tie.close (tie.spec returns)
