@@ -51,10 +51,11 @@ pub record FieldsTo (file line : List ℕ) (type k a e : ℕ) (filled : Bool) (n
   pub flag : FilledTo type line k filled
   pub kept : Kept numbers bs es
 
-pub fields-start : {file line : List ℕ} {a e : ℕ} {r : Head} {numbers : List ℕ} → HeadRead file line a e r numbers → (bs es : List ℕ) → length bs ≡ 24 → length es ≡ 24
-    → FieldsTo file line (r .record_type) 3 (r .«type_end» + 1) e (r .filled) numbers
-    (set (set (set bs 0 a) 1 (r .«id_end» + 1)) 2 (r .«parent_end» + 1)) (set (set (set es 0 (r .«id_end»)) 1 (r .«parent_end»)) 2 (r .«type_end»))
-fields-start h bs es starts ends =
+pub fields-start : {file line : List ℕ} {a e : ℕ} {r : Head} {numbers bs′ es′ : List ℕ} → HeadRead file line a e r numbers → (bs es : List ℕ) → length bs ≡ 24 → length es ≡ 24
+    → bs′ ≡ set (set (set bs 0 a) 1 (r .«id_end» + 1)) 2 (r .«parent_end» + 1) → es′ ≡ set (set (set es 0 (r .«id_end»)) 1 (r .«parent_end»)) 2 (r .«type_end»)
+    → FieldsTo file line (r .record_type) 3 (r .«type_end» + 1) e (r .filled) numbers bs′ es′
+fields-start h bs es starts ends p q =
+    rw (p, q)
     record {
       read = head-read h bs es starts ends;
       flag = h .filled;

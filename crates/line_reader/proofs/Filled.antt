@@ -1,16 +1,15 @@
 -- Test 5, field by field: a flag says whether the fields that are read are filled as they must be.
 --     filled-more        one field more
 --     mark-field         whether a field after the first three is filled, by the mark that is lent and its length
---     flag-falls, flag-unmarked, flag-some    what becomes of the flag there
 --     head-filled        the first three fields, by the lengths of two
 --     filled-line        all fields
 -- Assumes nothing.
 use mathlib.Core.Path.{_≡_, refl, sym, _∙_, ap}
 use mathlib.Core.List.{List}
-use mathlib.Core.Bool.{Bool, true, false, cond, not, _&&_, and-true, and-false}
+use mathlib.Core.Bool.{Bool, true, false, cond, not, _&&_, and-true, and-false, and-comm}
 use Prim.Native.Nat.{ℕ, _+_, _*_, _≤_, _<_}
 use native.Mathlib.Omega.{arith}
-use borrow.Author.Tests.{eqb-true, eq-eqb, ne-eqb}
+use borrow.Author.Tests.{eqb-true, ne-eqb}
 use lib.Dec.{eqb}
 use lib.ListN.{length, getD}
 use Rattle.lists.specs.Below.{someBelow}
@@ -45,21 +44,10 @@ module _ (type : ℕ) (line : List ℕ) where
   plain-field k other q = rw (ne-eqb k 1 other, and-false (eqb type FH), q)
 
   pub mark-field : {marks : List Bool} → marks ≡ joined markRows → type < 9 → (k : ℕ) {len : ℕ} → 3 ≤ k → k < 19 → len ≡ length (fieldAfter line k)
-      → unfilledAt type line k ≡ (getD marks (type * 19 + k) false && eqb len 0)
-  mark-field {marks} lent known k past small q =
+      → unfilledAt type line k ≡ (eqb len 0 && getD marks (type * 19 + k) false)
+  mark-field {marks} lent known k {len} past small q =
       let mark : getD marks (type * 19 + k) false ≡ isMandatory type k = rw lent (joined-at 19 markRows marks-long type k false known small ∙ row-mark type k known small) in
-      plain-field k (λ e. omega (arith, e)) q ∙ rw mark
-
--- what becomes of the flag at a field with a mark and a length
-module _ (filled mark : Bool) (len : ℕ) where
-  pub flag-falls : mark ≡ true → len ≡ 0 → false ≡ (filled && not (mark && eqb len 0))
-  flag-falls m e = sym (rw (m, eq-eqb len 0 e) (and-false filled))
-
-  pub flag-unmarked : mark ≡ false → filled ≡ (filled && not (mark && eqb len 0))
-  flag-unmarked m = sym (rw m (and-true filled))
-
-  pub flag-some : (len ≡ 0 → ⊥) → filled ≡ (filled && not (mark && eqb len 0))
-  flag-some e = sym (rw (ne-eqb len 0 e, and-false mark) (and-true filled))
+      plain-field k (λ e. omega (arith, e)) q ∙ rw mark (and-comm (isMandatory type k) (eqb len 0))
 
 -- ---- the first three fields
 HeadMarked : ℕ → Type 0

@@ -7,12 +7,13 @@
 -- Assumes nothing.
 use mathlib.Core.Path.{_≡_, refl, sym, _∙_, ap, subst}
 use mathlib.Core.List.{List}
-use mathlib.Core.Bool.{true, false}
+use mathlib.Core.Bool.{true, false, not}
 use Prim.Native.Nat.{ℕ, zero, suc, _+_, _≤_, _<_}
 use native.Mathlib.Omega.{arith}
 use lib.Dec.{leb, leb→le}
 use lib.ListN.{length, getD, set, length-set}
 use lib.Seq.{getD-set-same, getD-set-other}
+use Rattle.lists.specs.Below.{someBelow}
 use Rattle.lists.proofs.AllBelow.{at-below}
 use Rattle.lists.proofs.Table.{every-at}
 use Rattle.records.specs.InsidePlacedLines.{part, At}
@@ -20,6 +21,7 @@ use Rattle.tables.specs.Types.{typeNamed}
 use Rattle.fields.specs.Fields.{fitsType}
 use Rattle.fields.specs.declared.FieldType.the-variants.{RecordId, Char}
 use Rattle.tables.specs.Tables.{fieldCounts, fieldCount, fieldType}
+use Rattle.format.specs.Format.{isPrintable}
 use Rattle.readings.specs.declared.Reading.{Reading}
 use Rattle.readings.specs.InsideLeadingBytes.{leadingField}
 use Rattle.readings.proofs.Ends.{field-length}
@@ -118,13 +120,14 @@ module _ {file : List ℕ} {a e : ℕ} {numbers : List ℕ} (lent : LineLent fil
             pub head-unknown : 9 ≤ typeNamed (part file d (d + name .len)) → unread (part file a e) ≡ true
             head-unknown h = unknown-type (part file a e) (subst (λ (l : List ℕ). 9 ≤ typeNamed l) third-part h)
 
-            pub head-all : (r : Head) → r .record_type ≡ typeNamed (part file d (d + name .len)) → r .«id_end» ≡ a + id .len → r .«parent_end» ≡ a + id .len + 1 + parent .len → r .«type_end» ≡ d + name .len → r .filled ≡ headFilled (r .record_type) (id .len) (parent .len) → r .record_type < 9
+            pub head-all : (r : Head) → someBelow (λ (i : ℕ). not (isPrintable (getD (part file a e) i 0))) (length (part file a e)) ≡ false → r .record_type ≡ typeNamed (part file d (d + name .len)) → r .«id_end» ≡ a + id .len → r .«parent_end» ≡ a + id .len + 1 + parent .len → r .«type_end» ≡ d + name .len → r .filled ≡ headFilled (r .record_type) (id .len) (parent .len) → r .record_type < 9
                 → HeadRead file (part file a e) a e r (set (set (set numbers 1 (id .number)) 2 (parent .number)) 3 (name .number))
-            head-all r t i p q f known =
+            head-all r c t i p q f known =
                 let all = read-more (two (r .record_type) known) low3 high (name .len) (name .number) (read3 .ends) (rw (length-set, length-set) (omega (arith, size))) (rw (length-set, length-set) (omega (arith, size))) (rw (length-set, length-set) (omega (arith, size)))
                 (field-fits (sym (head-types (r .record_type) known .2)) read3) in
                 let named = t ∙ ap typeNamed third-part in
                 record {
+                  printable = c;
                   type = named;
                   size = rw (length-set, length-set, length-set) size;
                   none = getD-set-other (set (set numbers 1 (id .number)) 2 (parent .number)) 3 0 (name .number) 0 (λ z. omega (arith, z))

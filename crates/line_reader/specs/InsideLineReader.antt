@@ -4,16 +4,17 @@
 use Prim.Native.Nat.{ℕ, _+_, _-_, _≤_, _<_}
 use mathlib.Core.Path.{_≡_}
 use mathlib.Core.List.{List, []}
-use mathlib.Core.Bool.{Bool, cond, not, _&&_, _||_}
+use mathlib.Core.Bool.{Bool, false, cond, not, _&&_, _||_}
 use lib.ListN.{length, drop, getD}
 use lib.Dec.{eqb, leb}
 use Rattle.lists.specs.Below.{firstBelow, someBelow}
+use Rattle.lists.specs.InsideFirstSoFar.{firstAfter}
 use Rattle.records.specs.Text.{cut, fieldsOf}
 use Rattle.records.specs.InsidePlacedLines.{part, At}
 use Rattle.tables.specs.Types.{FH, typeNamed}
 use Rattle.records.specs.Records.{field, typeIn}
 use Rattle.tables.specs.Tables.{isMandatory}
-use Rattle.format.specs.Format.{lineAt, isEmpty, unformatted, someField, unfit, firstUnfilled, firstMiscoded}
+use Rattle.format.specs.Format.{isPrintable, lineAt, isEmpty, unformatted, someField, unfit, firstUnfilled, firstMiscoded}
 use Rattle.codes_and_rows.specs.InsideFields.{FieldFits, fieldAfter}
 use Rattle.line_reader.specs.declared.Head.{Head}
 use Rattle.line_reader.specs.declared.LinesRead.{LinesRead}
@@ -57,8 +58,9 @@ pub record LineLent (file : List ℕ) (a e : ℕ) (numbers : List ℕ) : Type 0 
   pub size : length numbers ≡ 24
   pub none : getD numbers 0 0 ≡ 0
 
--- the first three fields of a line, which begins at a and ends at e, are read, of which the third names its type
+-- the first three fields of a line of printable bytes, which begins at a and ends at e, are read, of which the third names its type
 pub record HeadRead (file line : List ℕ) (a e : ℕ) (r : Head) (numbers : List ℕ) : Type 0 where
+  pub printable : someBelow (λ (i : ℕ). not (isPrintable (getD line i 0))) (length line) ≡ false
   pub type : r .record_type ≡ typeNamed (fieldAfter line 2)
   pub size : length numbers ≡ 24
   pub none : getD numbers 0 0 ≡ 0
@@ -72,6 +74,15 @@ pub record HeadRead (file line : List ℕ) (a e : ℕ) (r : Head) (numbers : Lis
   pub filled : FilledTo (r .record_type) line 3 (r .filled)
 
 -- ---- the file
+-- what is kept of the lines, `read` before and r after line `read .stopped` of n, by the numbers of its fields
+pub record LineKept (read : LinesRead) (n : ℕ) (filled coded : Bool) (numbers : List ℕ) (r : LinesRead) : Type 0 where
+  pub stopped : r .stopped ≡ read .stopped + 1
+  pub unfilled : r .unfilled ≡ firstAfter (not filled) (read .unfilled) n (read .stopped)
+  pub miscoded : r .miscoded ≡ firstAfter (not coded) (read .miscoded) n (read .stopped)
+  pub retailer : r .retailer ≡ cond (eqb (read .stopped) 0) (getD numbers 4 0) (read .retailer)
+  pub sender : r .sender ≡ cond (eqb (read .stopped) 0) (getD numbers 5 0) (read .sender)
+  pub counted : r .counted ≡ getD numbers 4 0
+
 -- what is answered of a file's lines where each passes tests 2 and 3: what tests 5 and 7 answer, and the numbers that say fields 4 and 5 of the first line
 -- and field 4 of the last. Where the first line is FH and the last FT, these are the retailer, the sender and the record count.
 pub record AllRead (lines : List (List ℕ)) (r : LinesRead) : Type 0 where

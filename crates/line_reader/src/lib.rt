@@ -1,9 +1,10 @@
 // The reader: each line of a file is read once, and each field of it once, as its end is found. It answers the first line that fails test 2 or 3;
 // where none does, the first lines that fail 5 and 7, what the header and the trailer say, and the columns.
 ghost use mathlib.Core.Path.{_≡_};
-ghost use mathlib.Core.Bool.{true, false};
+ghost use mathlib.Core.Bool.{true, false, not, _&&_};
 ghost use Prim.Native.Nat.{ℕ, _≤_, _<_};
-ghost use lib.ListN.{length};
+ghost use lib.Dec.{eqb};
+ghost use lib.ListN.{length, set, replicate};
 ghost use Rattle.lists.specs.Bytes.{sameBytes};
 ghost use Rattle.lists.specs.Written.{written};
 ghost use Rattle.calendar.specs.InsideFirstDays.{firstDays};
@@ -16,7 +17,7 @@ ghost use Rattle.tables.specs.InsideRows.{joined};
 ghost use Rattle.tables.specs.InsideCodes.{codeRows};
 ghost use Rattle.records.specs.InsidePlacedFields.{fieldAmong, fieldsAt, FieldsPlaced};
 ghost use Rattle.format.specs.Format.{lineAt, unformatted, firstUnformatted};
-ghost use Rattle.line_reader.specs.InsideLineReader.{unread, firstUnread, headFilled, LineLent, HeadRead, AllRead};
+ghost use Rattle.line_reader.specs.InsideLineReader.{unread, firstUnread, headFilled, LineLent, HeadRead, LineKept, AllRead};
 use records::Record;
 
 // What is answered of a file's lines: the line at which the reader stopped, or their number; then, where it read them all, the first lines that fail
@@ -64,43 +65,44 @@ fn head_filled(record_type: u64, id_len: usize, parent_len: usize) -> bool
     parent_len != 0
 }
 
-// The first three fields of the line from a to e: its IDs and its type; 9 where one does not fit, or there are fewer, or the type is unknown.
+// The first three fields of the line from a to e: its IDs and its type; 9 where a byte of the line is unprintable, a field does not fit, there are fewer,
+// or the type is unknown.
 fn read_head(file: &[u8], a: usize, e: usize, numbers: &mut [u64; 24]) -> Head
     requires { ⌜ LineLent (now file) a e (now numbers) ⌝ }
     ensures { λ r. ⌜ (r .record_type < 9 → HeadRead (now (file .entry)) (part (now (file .entry)) a e) a e r (now (numbers .exit))) ⌝ }
     ensures { λ r. ⌜ (9 ≤ r .record_type → unread (part (now (file .entry)) a e) ≡ true) ⌝ }
 {
+    if format::has_unprintable(&file[a..e]) {
+        return no_head();
+    }
     let id = readings::read_id(&file[a..e]);
     let id_fits = id.fits;
-    let id_len = id.len;
     if !id_fits {
         return no_head();
     }
-    let id_end = a + id_len;
+    let id_end = a + id.len;
     if e <= id_end {
         return no_head();
     }
     let b = id_end + 1;
     let parent = readings::read_id(&file[b..e]);
     let parent_fits = parent.fits;
-    let parent_len = parent.len;
     if !parent_fits {
         return no_head();
     }
-    let parent_end = b + parent_len;
+    let parent_end = b + parent.len;
     if e <= parent_end {
         return no_head();
     }
     let d = parent_end + 1;
     let name = readings::read_char(&file[d..e], 2);
     let name_fits = name.fits;
-    let type_len = name.len;
     if !name_fits {
         return no_head();
     }
-    let type_end = d + type_len;
+    let type_end = d + name.len;
     let record_type = tables::type_named(&file[d..type_end]);
-    let filled = head_filled(record_type, id_len, parent_len);
+    let filled = head_filled(record_type, id.len, parent.len);
     numbers[1] = id.number;
     numbers[2] = parent.number;
     numbers[3] = name.number;
@@ -126,7 +128,72 @@ fn is_electric<'a>(
     lists::same_bytes(records::field_among(file, starts, ends, count, 6), b"EL")
 }
 
-// Reads the lines. The calendar's table, the tables' codes and marks, and the columns' fields are lent.
+// A record whose fields are not read yet.
+fn no_record() -> Record
+    ensures { λ r. ⌜ (r .record_type ≡ 9) × (r .count ≡ 0) × (r .starts ≡ replicate 24 0) × (r .ends ≡ replicate 24 0) ⌝ }
+{
+    Record {
+        record_type: tables::NO_TYPE,
+        count: 0,
+        starts: [0; 24],
+        ends: [0; 24],
+    }
+}
+
+// The first three fields are read at once, by read_head: stores where they begin, or where they end.
+fn place_three(places: &mut [usize; 24], first: usize, second: usize, third: usize)
+    ensures { λ _. ⌜ now (places .exit) ≡ set (set (set (now (places .entry)) 0 first) 1 second) 2 third ⌝ }
+{
+    places[0] = first;
+    places[1] = second;
+    places[2] = third;
+}
+
+// Whether a line's fields are filled as they must be, with one field more, of this length: a marked field must not be empty.
+fn still_filled(filled: bool, len: usize, marked: bool) -> bool
+    ensures { λ r. ⌜ r ≡ filled && not (eqb len 0 && marked) ⌝ }
+{
+    if len == 0 {
+        if marked {
+            return false;
+        }
+    }
+    filled
+}
+
+// What is kept before the first of n lines is read.
+fn none_read(n: usize) -> LinesRead
+    ensures { λ r. ⌜ (r .stopped ≡ 0) × (r .unfilled ≡ n) × (r .miscoded ≡ n) × (r .retailer ≡ 0) × (r .sender ≡ 0) × (r .counted ≡ 0) ⌝ }
+{
+    LinesRead {
+        stopped: 0,
+        unfilled: n,
+        miscoded: n,
+        retailer: 0,
+        sender: 0,
+        counted: 0,
+    }
+}
+
+// What is kept of the lines with one more, line read.stopped of n, by whether it is filled, whether its codes are right, and its fields' numbers.
+fn with_line(read: LinesRead, n: usize, filled: bool, coded: bool, numbers: &[u64; 24]) -> LinesRead
+    requires { ⌜ read .stopped < n ⌝ }
+    ensures { λ r. ⌜ LineKept read n filled coded (now (numbers .entry)) r ⌝ }
+{
+    let i = read.stopped;
+    let mut next = read;
+    if i == 0 {
+        next.retailer = numbers[4];
+        next.sender = numbers[5];
+    }
+    next.stopped = i + 1;
+    next.unfilled = lists::first_so_far(!filled, read.unfilled, n, i);
+    next.miscoded = lists::first_so_far(!coded, read.miscoded, n, i);
+    next.counted = numbers[4];
+    next
+}
+
+// Reads the lines; read.stopped is the line that is read next. The calendar's table, the tables' codes and marks, and the columns' fields are lent.
 fn read_lines_lent(
     days: &[u64],
     codes: &[usize],
@@ -148,25 +215,13 @@ fn read_lines_lent(
     ensures { λ r. ⌜ (r .stopped ≡ length (linesOf (now (file .entry))) → ColumnsRead (linesOf (now (file .entry))) (now (words .exit)) (now (charges .exit)) (now (usages .exit))) ⌝ }
 {
     let mut numbers = [0u64; 24];
-    let mut record = Record {
-        record_type: tables::NO_TYPE,
-        count: 0,
-        starts: [0; 24],
-        ends: [0; 24],
-    };
+    let mut record = no_record();
     let mut electricity = false;
-    let mut unfilled = n;
-    let mut miscoded = n;
-    let mut retailer = 0u64;
-    let mut sender = 0u64;
-    let mut counted = 0u64;
-    let mut i: usize = 0;
-    'records: while i < n {
+    let mut read = none_read(n);
+    'records: while read.stopped < n {
+        let i = read.stopped;
         let start = starts[i];
         let e = ends[i];
-        if format::has_unprintable(&file[start..e]) {
-            break 'records;
-        }
         let head = read_head(file, start, e, &mut numbers);
         let record_type = head.record_type;
         if tables::NO_TYPE <= record_type {
@@ -174,12 +229,8 @@ fn read_lines_lent(
         }
         let id_end = head.id_end;
         let parent_end = head.parent_end;
-        record.starts[0] = start;
-        record.ends[0] = id_end;
-        record.starts[1] = id_end + 1;
-        record.ends[1] = parent_end;
-        record.starts[2] = parent_end + 1;
-        record.ends[2] = head.type_end;
+        place_three(&mut record.starts, start, id_end + 1, parent_end + 1);
+        place_three(&mut record.ends, id_end, parent_end, head.type_end);
         let count = tables::field_count(record_type);
         let row = record_type as usize * 19;
         let mut filled = head.filled;
@@ -195,11 +246,7 @@ fn read_lines_lent(
             if !fits {
                 break 'records;
             }
-            if len == 0 {
-                if marks[row + k] {
-                    filled = false;
-                }
-            }
+            filled = still_filled(filled, len, marks[row + k]);
             record.starts[k] = a;
             record.ends[k] = a + len;
             numbers[k + 1] = field.number;
@@ -213,24 +260,12 @@ fn read_lines_lent(
         record.count = count;
         if i == 0 {
             electricity = is_electric(file, &record.starts, &record.ends, count);
-            retailer = numbers[4];
-            sender = numbers[5];
         }
-        counted = numbers[4];
-        unfilled = lists::first_so_far(!filled, unfilled, n, i);
         let coded = codes_and_rows::codes_stand(record_type, &numbers, electricity);
-        miscoded = lists::first_so_far(!coded, miscoded, n, i);
         codes_and_rows::store_line(fields, &numbers, record_type, words, charges, usages, i);
-        i += 1;
+        read = with_line(read, n, filled, coded, &numbers);
     }
-    LinesRead {
-        stopped: i,
-        unfilled,
-        miscoded,
-        retailer,
-        sender,
-        counted,
-    }
+    read
 }
 
 // Reads each of n lines, into the columns, up to the first that fails test 2 or 3.
