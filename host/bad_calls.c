@@ -21,12 +21,13 @@
     AT(intake_booking, number, 0) AT(intake_booking, line, 8) AT(intake_booking, added, 16) AT(intake_booking, held, 24) \
     AT(intake_sums, number, 0) AT(intake_sums, live_charge, 8) AT(intake_sums, live_kwh, 16) AT(intake_sums, live_gj, 24) \
     AT(intake_sums, held_charge, 32) AT(intake_sums, held_kwh, 40) AT(intake_sums, held_gj, 48) \
-    AT(intake_place, number, 0) AT(intake_place, found, 8) AT(intake_place, place, 16)
+    AT(intake_place, number, 0) AT(intake_place, found, 8) AT(intake_place, place, 16) \
+    AT(intake_reading, number, 0) AT(intake_reading, filled, 8) AT(intake_reading, units, 16)
 
 #define ASSERT_AT(name, field, offset) _Static_assert(offsetof(struct name, field) == (offset), #name "." #field);
 #define PRINT_AT(name, field, offset) printf("%s.%s %zu\n", #name, #field, offsetof(struct name, field));
 
-#define SIZES(OF) OF(intake_entry, 88) OF(intake_booking, 32) OF(intake_sums, 56) OF(intake_place, 24)
+#define SIZES(OF) OF(intake_entry, 88) OF(intake_booking, 32) OF(intake_sums, 56) OF(intake_place, 24) OF(intake_reading, 24)
 #define ASSERT_SIZE(name, size) _Static_assert(sizeof(struct name) == (size), #name);
 #define PRINT_SIZE(name, size) printf("%s %zu\n", #name, sizeof(struct name));
 
@@ -199,6 +200,27 @@ static void try_others(void) {
     print_answer("code of 2^64 - 1", intake_code(UINT64_MAX));
 }
 
+/* A null field and the digit 1, of precisions and scales past those that have a value, and of the greatest that do. */
+static void try_amounts(void) {
+    static const struct { const char *name; uint64_t precision; uint64_t scale; } widths[] = {
+        {"precision 0", 0, 0},
+        {"precision 15", 15, 0},
+        {"precision 15, scale 14", 15, 14},
+        {"precision 15, scale 15", 15, 15},
+        {"precision 15, scale 2^64 - 1", 15, UINT64_MAX},
+        {"precision 16", 16, 0},
+        {"precision 16, scale 15", 16, 15},
+        {"precision 2^64 - 1", UINT64_MAX, 0},
+        {"precision 2^64 - 1, scale 2^64 - 1", UINT64_MAX, UINT64_MAX},
+    };
+    for (size_t i = 0; i < sizeof widths / sizeof widths[0]; i++) {
+        struct intake_reading null = intake_amount(NULL, 0, widths[i].precision, widths[i].scale);
+        struct intake_reading one = intake_amount(bytes("1"), 1, widths[i].precision, widths[i].scale);
+        printf("amount, %s: null field %" PRIu64 " %" PRIu64 " %" PRId64, widths[i].name, null.number, null.filled, null.units);
+        printf(", \"1\" %" PRIu64 " %" PRIu64 " %" PRId64 "\n", one.number, one.filled, one.units);
+    }
+}
+
 #define SETTINGS .retailer = retailer, .distributors = distributors
 #define BOOK SETTINGS, .file = file
 #define FIND .site = site, .day = day
@@ -236,5 +258,6 @@ int main(void) {
     }
     kept = try_acceptance() && kept;
     try_others();
+    try_amounts();
     return kept ? EXIT_SUCCESS : EXIT_FAILURE;
 }

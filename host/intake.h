@@ -1,8 +1,10 @@
 /* The intake library, as a host program calls it: C11 or C++, on x86-64 with the System V calling convention.
  *
- * The library tests a distributor's tariff bill file, books accepted files into a ledger that the host owns, sums the ledger,
- * and finds a period in it. What stands in quotation marks here stands in document 01, the scope of the project. docs/HOST.md
- * has the link line and a whole host; docs/REFUSALS.md says for each refusal what to ask the distributor for.
+ * The library tests a distributor's tariff bill file (intake_check), books accepted files into a ledger that the host owns
+ * (intake_book), sums the ledger (intake_totals), and finds a period in it (intake_find). It also reads a date (intake_day) and an
+ * amount (intake_amount) as they stand in a file, and has the code of a test (intake_code). What stands in quotation marks here
+ * stands in document 01, the scope of the project. docs/HOST.md has the link line and a whole host; docs/REFUSALS.md says for
+ * each refusal what to ask the distributor for.
  *
  *
  * WHAT HOLDS OF EVERY CALL
@@ -76,7 +78,7 @@
  *   106  "106 if the site number has over 13 digits or the day exceeds 36,524."
  *   107  "107 if the number isn't a Table 5-1 test listed here (101 and 102 aren't)."
  *
- * intake_day answers 3 where its bytes are no date.
+ * intake_day answers 3 where its bytes are no date, and intake_amount where its field is filled and has no value of its type.
  */
 #ifndef INTAKE_H
 #define INTAKE_H
@@ -167,6 +169,17 @@ struct intake_place {
     uint64_t place;  /* 16 */
 };
 
+/* What intake_amount answers: 24 bytes.
+ *
+ * number 0 and filled 0: the field is empty, so that the amount is missing, and units is 0.
+ * number 0 and filled 1: the amount has a value, which is units: a whole number of units of its last place. It may be 0.
+ * number 3 and filled 1: the field misses its type, or its type has no value that is read, and units is 0. */
+struct intake_reading {
+    uint64_t number; /* 0 */
+    uint64_t filled; /* 8 */
+    int64_t units;   /* 16 */
+};
+
 /* Check: the first refusal of a file, in the order 104, 103, 2 to 7, 9 to 38. It reads no ledger.
  *
  * retailer       our retailer number; more than 999999999 is 104
@@ -211,6 +224,19 @@ struct intake_place intake_find(const struct intake_entry *run, size_t places, s
 /* The day number of a date: its bytes, eight digits YYYYMMDD, of a day of 2000 to 2099. Answers the day in the lower 32 bits, 0
  * for 20000101 to INTAKE_LAST_DAY for 20991231; number 3 where the bytes are no date. */
 uint64_t intake_day(const uint8_t *date, size_t date_len);
+
+/* The amount in a field: missing where the field is empty, its value, or number 3. A field left blank and one that holds 0 are
+ * told apart by filled alone: units is 0 in both. Writes nothing.
+ *
+ * field          the bytes of the field alone, without the commas around it or the line's end; no bytes where it is blank. A blank
+ *                of spaces misses its type: number 3
+ * precision, scale   those that the field's table in AUC Rule 004 gives it: 14 and 4 for Number(14,4), 4 and 0 for Number(4)
+ *
+ * "A Number(p,s) amount, with p at most 15, is an optional minus, 1 to p - s digits, then optionally a point and 1 to s digits."
+ * So "12.5" as Number(11,2) has 1250 units, and "Minus zero is zero." A precision above 15 has no value: every filled field is
+ * number 3 there, also one that intake_check takes. The same holds of a scale that isn't below its precision. An empty field is
+ * missing, whatever the precision and the scale. */
+struct intake_reading intake_amount(const uint8_t *field, size_t field_len, uint64_t precision, uint64_t scale);
 
 /* The A5.24 code of a test of Table 5-1, in the lower 32 bits; number 107 where the number is no test that is run. For house
  * numbers, which have no code, that is 107 too. */

@@ -3,7 +3,10 @@
 use crate::inputs::{self, Random};
 use crate::tally::Tally;
 use compare::proved;
+use reference::fields::{Amount, FieldType, AMOUNT_PRECISION};
+use reference::file::RECORD_TYPES;
 use reference::{calendar, codes, fields, periods};
+use std::fmt::{self, Display, Formatter};
 
 /// The widths of Tables 4-2 to 4-10, and some that no table has.
 const WIDTHS: [(u64, u64); 22] = [
@@ -49,9 +52,15 @@ const EDGE_DATES: [&[u8]; 14] = [
     b"\xff0000101",
 ];
 
-/// Amounts that document 01 tells apart, and near ones.
-const EDGE_AMOUNTS: [&[u8]; 20] = [
+/// Amounts that documents 01 and 02 tell apart, and near ones.
+const EDGE_AMOUNTS: [&[u8]; 26] = [
     b"",
+    b" ",
+    b"   ",
+    b"\t",
+    b"0 ",
+    b"00",
+    b"-00.0",
     b"-",
     b".",
     b"-.",
@@ -72,6 +81,12 @@ const EDGE_AMOUNTS: [&[u8]; 20] = [
     b"\xff",
     b"0",
 ];
+
+/// So many amounts are drawn for each width.
+const DRAWN_FOR_EACH: usize = 6_000;
+
+/// Misses of each width are met at least so many times, and values too where it can have some.
+const MET: u64 = 1_000;
 
 fn hold_day(tally: &mut Tally, date: &[u8]) {
     let expected = calendar::day_of(date);
@@ -117,29 +132,86 @@ fn date_times(random: &mut Random) -> u64 {
     tally.report("date times")
 }
 
-fn hold_amount(tally: &mut Tally, field: &[u8], precision: u64, places: u64) {
-    let narrow = |n: u64| u32::try_from(n).unwrap_or(u32::MAX);
-    let expected = match fields::amount_of(field, narrow(precision), narrow(places)) {
-        fields::Amount::Value(units) => Some(units),
-        fields::Amount::Misses => None,
-    };
-    tally.hold("amount", &(field, precision, places), proved::amount(field, precision, places), expected, expected.is_some());
+/// How often each answer was met for a width.
+struct Answers {
+    width: (u64, u64),
+    missing: u64,
+    values: u64,
+    misses: u64,
+}
+
+impl Answers {
+    fn new(width: (u64, u64)) -> Answers {
+        Answers { width, missing: 0, values: 0, misses: 0 }
+    }
+
+    fn hold(&mut self, tally: &mut Tally, field: &[u8]) {
+        let (precision, places) = self.width;
+        let narrow = |n: u64| u32::try_from(n).unwrap_or(u32::MAX);
+        let expected = fields::amount_of(field, narrow(precision), narrow(places));
+        let proved = proved::amount(field, precision, places);
+        tally.hold("amount", &(field, precision, places), proved, expected, expected != Amount::Misses);
+        match proved {
+            Amount::Missing => self.missing += 1,
+            Amount::Value(_) => self.values += 1,
+            Amount::Misses => self.misses += 1,
+        }
+    }
+
+    /// Whether a filled field of this width can have a value.
+    fn can_be_read(&self) -> bool {
+        let (precision, places) = self.width;
+        places < precision && precision <= u64::from(AMOUNT_PRECISION)
+    }
+
+    fn assert_met(&self) {
+        let values_are_met = if self.can_be_read() { self.values >= MET } else { self.values == 0 };
+        assert!(self.missing >= 1 && values_are_met && self.misses >= MET, "missing, values and misses of {self}");
+    }
+}
+
+impl Display for Answers {
+    fn fmt(&self, to: &mut Formatter) -> fmt::Result {
+        let Answers { width: (precision, places), missing, values, misses } = self;
+        write!(to, "({precision},{places}) {missing} {values} {misses}")
+    }
+}
+
+fn amounts_of(tally: &mut Tally, random: &mut Random, width: (u64, u64)) -> Answers {
+    let mut answers = Answers::new(width);
+    for field in EDGE_AMOUNTS {
+        answers.hold(tally, field);
+    }
+    let (precision, places) = width;
+    for _ in 0..DRAWN_FOR_EACH {
+        let field = inputs::amount(random, precision.min(20), places);
+        answers.hold(tally, &field);
+        answers.hold(tally, &inputs::damaged(random, &field));
+        answers.hold(tally, &inputs::noise(random));
+    }
+    answers
+}
+
+/// All amount fields have widths that are tried.
+fn assert_widths() {
+    for record_type in RECORD_TYPES {
+        for number in record_type.amount_fields() {
+            let field_type = record_type.fields()[number - 1].field_type;
+            let is_tried = |&(precision, places): &(u64, u64)| match field_type {
+                FieldType::Number(p, s) => (u64::from(p), u64::from(s)) == (precision, places),
+                _ => false,
+            };
+            assert!(WIDTHS.iter().any(is_tried), "{field_type:?} is not tried");
+        }
+    }
 }
 
 fn amounts(random: &mut Random) -> u64 {
+    assert_widths();
     let mut tally = Tally::new();
-    for (precision, places) in WIDTHS {
-        for field in EDGE_AMOUNTS {
-            hold_amount(&mut tally, field, precision, places);
-        }
-        let drawn = precision.min(20);
-        for _ in 0..4_000 {
-            let field = inputs::amount(random, drawn, places);
-            hold_amount(&mut tally, &field, precision, places);
-            hold_amount(&mut tally, &inputs::damaged(random, &field), precision, places);
-            hold_amount(&mut tally, &inputs::noise(random), precision, places);
-        }
-    }
+    let answers = WIDTHS.map(|width| amounts_of(&mut tally, random, width));
+    answers.iter().for_each(Answers::assert_met);
+    println!("missing, values and misses of {}", answers.map(|answers| answers.to_string()).join(", "));
     tally.report("amounts")
 }
 

@@ -1,9 +1,13 @@
-//! Files: valid ones, ones damaged so that a given test is the first to fail, edited ones, noise, and files at both limits.
+//! Files: valid ones, ones damaged so that a given test is the first to fail, edited ones, noise, files at both limits, and files with an
+//! amount left out.
 
+use crate::digest::Digest;
 use crate::tally::Tally;
 use compare::proved;
 use reference::check::check;
+use reference::file::{RecordType, RECORD_TYPES};
 use reference::generate::damage::CHECK_TESTS;
+use reference::generate::draft::Draft;
 use reference::generate::{Generator, Style, DISTRIBUTOR, RETAILER};
 use std::collections::BTreeMap;
 
@@ -12,18 +16,26 @@ const DAMAGED_FOR_EACH: usize = 600;
 
 const VALID: usize = 24_000;
 
+/// So many files have each amount field left out.
+const LEFT_OUT_FOR_EACH: usize = 100;
+
 struct Comparison {
     tally: Tally,
+    digest: Digest,
     /// How often each number was the answer.
     answers: BTreeMap<u32, u64>,
 }
 
 impl Comparison {
-    fn hold(&mut self, retailer: u64, distributors: &[u8], file: &[u8]) {
+    /// Holds a file, and answers what the proved Check does.
+    fn hold(&mut self, retailer: u64, distributors: &[u8], file: &[u8]) -> (u32, u32) {
         let expected = check(retailer, distributors, file);
+        let proved = proved::check(retailer, distributors, file);
         let shown = String::from_utf8_lossy(&file[..file.len().min(2_000)]).into_owned();
-        self.tally.hold("check", &shown, proved::check(retailer, distributors, file), expected, expected == (0, 0));
+        self.tally.hold("check", &shown, proved, expected, expected == (0, 0));
+        self.digest.fold(&[proved.0.into(), proved.1.into()]);
         *self.answers.entry(expected.0).or_insert(0) += 1;
+        proved
     }
 }
 
@@ -75,11 +87,62 @@ fn hold_generated(comparison: &mut Comparison, seed: u64, style: Style) {
     }
 }
 
+/// A valid file with records of a type, and the place of one of them.
+fn draft_with(generator: &mut Generator, record_type: RecordType) -> (Draft, usize) {
+    loop {
+        let request = generator.full_request();
+        let draft = generator.valid(&request);
+        let places = draft.places(|record| record.record_type == record_type);
+        if !places.is_empty() {
+            return (draft, places[generator.random.place(places.len())]);
+        }
+    }
+}
+
+/// Holds a valid file with one amount field left out: 5 refuses it where the field is mandatory, and otherwise it passes, as it does with 0
+/// there. Spaces are no amount.
+fn hold_left_out(comparison: &mut Comparison, draft: &Draft, place: usize, number: usize) {
+    let (record_type, line) = (draft.records[place].record_type, place as u32 + 1);
+    let mut answer_with = |text: &str| {
+        let mut draft = draft.clone();
+        draft.records[place].set(number, text);
+        comparison.hold(RETAILER, b"0040", &draft.plain_bytes())
+    };
+    let is_optional = record_type.optional_amount_fields().any(|optional| optional == number);
+    let expected = if is_optional { (0, 0) } else { (5, line) };
+    assert_eq!(answer_with(""), expected, "field {number} of {record_type:?} is left out");
+    if is_optional {
+        assert_eq!(answer_with("0"), expected, "field {number} of {record_type:?} is 0");
+    }
+    for spaces in [" ", "  ", "   "] {
+        assert_eq!(answer_with(spaces), (3, line), "field {number} of {record_type:?} is {spaces:?}");
+    }
+}
+
+fn hold_amount_fields(comparison: &mut Comparison, seed: u64) {
+    let mut generator = Generator::new(seed, Style::Varied);
+    let mut optional = 0;
+    let mut all = 0;
+    for record_type in RECORD_TYPES {
+        optional += record_type.optional_amount_fields().count();
+        for number in record_type.amount_fields() {
+            all += 1;
+            for _ in 0..LEFT_OUT_FOR_EACH {
+                let (draft, place) = draft_with(&mut generator, record_type);
+                hold_left_out(comparison, &draft, place, number);
+            }
+        }
+    }
+    assert!(optional > 0);
+    println!("amount fields left out {all}, of them {optional} that aren't mandatory, in {LEFT_OUT_FOR_EACH} files each");
+}
+
 /// Compares Check, and answers how many files there were.
 pub fn compare(seed: u64) -> u64 {
-    let mut comparison = Comparison { tally: Tally::new(), answers: BTreeMap::new() };
+    let mut comparison = Comparison { tally: Tally::new(), digest: Digest::new(), answers: BTreeMap::new() };
     hold_generated(&mut comparison, seed, Style::Sample);
     hold_generated(&mut comparison, seed + 1, Style::Varied);
+    hold_amount_fields(&mut comparison, seed + 2);
     comparison.hold(RETAILER, b"0040", b"");
     for test in CHECK_TESTS {
         let met = comparison.answers.get(&test).copied().unwrap_or(0);
@@ -87,5 +150,5 @@ pub fn compare(seed: u64) -> u64 {
     }
     let answers: Vec<String> = comparison.answers.iter().map(|(number, count)| format!("{number}: {count}")).collect();
     println!("answers {}", answers.join(", "));
-    comparison.tally.report("files")
+    comparison.tally.report_with("files", &comparison.digest)
 }

@@ -1,10 +1,11 @@
 //! Lists of bookings, each from used count 0 over a run of any length and content. After each call: the answer, every place of the run
 //! and some past it, Totals and some Finds. After each list: demand 3, unless the ledger was changed between calls.
 
+use crate::digest::Digest;
 use crate::ledgers::change;
-use crate::recording::{Answers, Find, Recording, FINDS};
+use crate::recording::{words_of_booking, words_of_find, words_of_totals, Answers, Find, Recording, FINDS};
 use crate::tally::Tally;
-use compare::proved::{self, Book};
+use compare::proved::{self, bytes_of, Book};
 use reference::booking::{book, Answer};
 use reference::check::Settings;
 use reference::generate::damage::CHECK_TESTS;
@@ -225,6 +226,8 @@ impl Accepted {
 struct Comparison {
     book: Book,
     tally: Tally,
+    /// Of what the functions under test answer and leave.
+    digest: Digest,
     recording: Option<Recording>,
     /// How often each number was the answer.
     answers: BTreeMap<u32, u64>,
@@ -274,7 +277,7 @@ impl Comparison {
             recording.call(list.ledger.run(), list.ledger.used, list.ledger.is_lent_anew, &call);
         }
         let booking = self.hold_book(list, &call);
-        let (totals, finds) = (hold_totals(list), [(); FINDS].map(|()| hold_find(list)));
+        let (totals, finds) = (self.hold_totals(list), [(); FINDS].map(|()| self.hold_find(list)));
         hold_run(list, &call);
         if let Some(recording) = &mut self.recording {
             recording.answers(&Answers { booking, run: list.ledger.run(), totals, finds });
@@ -297,6 +300,8 @@ impl Comparison {
         };
         self.tally.hold("book", &Shown(list, call), proved, answer, number == 0);
         hold_run(list, call);
+        self.digest.fold(&words_of_booking(proved));
+        self.digest.fold_bytes(bytes_of(&list.ledger.entries[..list.ledger.places]));
         *self.answers.entry(number).or_insert(0) += 1;
         let before = list.ledger.used;
         list.ledger.used += added;
@@ -304,6 +309,28 @@ impl Comparison {
             self.accepted.count(list.ledger.places, before, list.ledger.used);
         }
         answer
+    }
+
+    fn hold_totals(&mut self, list: &List) -> Result<Totals, u32> {
+        let Ledger { entries, places, used, .. } = &list.ledger;
+        let expected = totals(list.ledger.run(), *used).map_err(|refusal| refusal.number);
+        let proved = proved::totals(entries, *places, *used);
+        assert!(proved == expected, "totals after call {} of list {}: proved {proved:?}, reference {expected:?}", list.files.len(), list.number);
+        self.digest.fold(&words_of_totals(proved));
+        expected
+    }
+
+    /// Holds Find at or near an end of a stored period.
+    fn hold_find(&mut self, list: &mut List) -> Find {
+        let Ledger { entries, places, used, .. } = &list.ledger;
+        let run = list.ledger.run();
+        let (site, day) = question(list.history.random(), run, *used);
+        let answer = find(run, *used, site, day).map_err(|refusal| refusal.number);
+        let proved = proved::find(entries, *places, *used, site, day);
+        let after = format_args!("after call {} of list {}", list.files.len(), list.number);
+        assert!(proved == answer, "find {site} {day} {after}: proved {proved:?}, reference {answer:?}");
+        self.digest.fold(&words_of_find(proved));
+        Find { site, day, answer }
     }
 
     /// Judges a list whose ledger nobody else changed, by the entries that the function under test left.
@@ -342,7 +369,7 @@ impl Comparison {
         println!("accepted to the last place {to_the_last_place}, of them {to_the_most_entries} of {MOST_ENTRIES} places");
         println!("left live {live}, held {held}, cancelled {cancelled}, of them {} rebilled and cancelled again", self.cancelled_again);
         println!("lists {LISTS}, judged {}", self.judged);
-        self.tally.report("bookings")
+        self.tally.report_with("bookings", &self.digest)
     }
 }
 
@@ -352,26 +379,6 @@ fn hold_run(list: &List, call: &Call) {
         let (proved, expected) = (list.ledger.entries[place], list.ledger.expected[place]);
         panic!("place {place} after {:?}: proved {proved:?}, reference {expected:?}", Shown(list, call));
     }
-}
-
-fn hold_totals(list: &List) -> Result<Totals, u32> {
-    let Ledger { entries, places, used, .. } = &list.ledger;
-    let expected = totals(list.ledger.run(), *used).map_err(|refusal| refusal.number);
-    let proved = proved::totals(entries, *places, *used);
-    assert!(proved == expected, "totals after call {} of list {}: proved {proved:?}, reference {expected:?}", list.files.len(), list.number);
-    expected
-}
-
-/// Holds Find at or near an end of a stored period.
-fn hold_find(list: &mut List) -> Find {
-    let Ledger { entries, places, used, .. } = &list.ledger;
-    let run = list.ledger.run();
-    let (site, day) = question(list.history.random(), run, *used);
-    let answer = find(run, *used, site, day).map_err(|refusal| refusal.number);
-    let proved = proved::find(entries, *places, *used, site, day);
-    let after = format_args!("after call {} of list {}", list.files.len(), list.number);
-    assert!(proved == answer, "find {site} {day} {after}: proved {proved:?}, reference {answer:?}");
-    Find { site, day, answer }
 }
 
 /// A site and a day to ask for.
@@ -389,6 +396,7 @@ pub fn compare(seed: u64, book: Book, recording: Option<Recording>) -> u64 {
     let mut comparison = Comparison {
         book,
         tally: Tally::new(),
+        digest: Digest::new(),
         recording,
         answers: BTreeMap::new(),
         accepted: Accepted::default(),

@@ -59,7 +59,7 @@ pub fn digits(random: &mut Random, count: u64) -> Vec<u8> {
     bytes
 }
 
-/// A Number(precision, places), sometimes one digit too long on either side of the point.
+/// A Number(precision, places), sometimes one digit too long on either side of the point. One without places seldom has a point.
 pub fn amount(random: &mut Random, precision: u64, places: u64) -> Vec<u8> {
     let whole = precision.saturating_sub(places);
     let mut bytes = Vec::new();
@@ -68,7 +68,7 @@ pub fn amount(random: &mut Random, precision: u64, places: u64) -> Vec<u8> {
     }
     let count = random.below(whole + 2);
     put_digits(random, &mut bytes, count);
-    if random.below(3) != 0 {
+    if random.below(3) < if places == 0 { 1 } else { 2 } {
         bytes.push(b'.');
         let count = random.below(places + 2);
         put_digits(random, &mut bytes, count);

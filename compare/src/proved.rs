@@ -2,6 +2,7 @@
 
 use reference::booking::Answer;
 use reference::check::{Refusal, Settings};
+use reference::fields::Amount;
 use reference::ledger::{Entry, StateTotals, Totals};
 use std::mem::{offset_of, size_of, size_of_val};
 
@@ -40,8 +41,18 @@ mod exported {
         pub place: u64,
     }
 
+    /// `struct intake_reading`.
+    #[derive(Debug)]
+    #[repr(C)]
+    pub struct Reading {
+        pub number: u64,
+        pub filled: u64,
+        pub units: i64,
+    }
+
     extern "C" {
         pub fn intake_day(date: *const u8, date_len: usize) -> u64;
+        pub fn intake_amount(field: *const u8, field_len: usize, precision: u64, scale: u64) -> Reading;
         pub fn intake_code(test: u64) -> u64;
         pub fn intake_check(retailer: u64, distributors: *const u8, distributors_len: usize, file: *const u8, file_len: usize) -> u64;
         pub fn intake_book(
@@ -56,7 +67,6 @@ mod exported {
         ) -> Booking;
         pub fn intake_totals(run: *const Entry, places: usize, used: usize) -> Sums;
         pub fn intake_find(run: *const Entry, places: usize, used: usize, site: u64, day: u64) -> Place;
-        pub fn comparison_amount(field: *const u8, field_len: usize, precision: u64, places: u64, units: *mut i64) -> u64;
         pub fn comparison_digits(field: *const u8, field_len: usize, count: u64, value: *mut u64) -> u64;
         pub fn comparison_date_time(field: *const u8, field_len: usize, day: *mut u64, second: *mut u64) -> u64;
         pub fn comparison_shares_day(start: u64, end: u64, other_start: u64, other_end: u64) -> u64;
@@ -115,16 +125,13 @@ pub fn check(retailer: u64, distributors: &[u8], file: &[u8]) -> (u32, u32) {
     ((answer >> 32) as u32, answer as u32)
 }
 
-/// The units of an amount; a refusal must leave what is lent as it was.
-pub fn amount(field: &[u8], precision: u64, places: u64) -> Option<i64> {
-    const UNTOUCHED: i64 = -0x5555_5555_5555;
-    let mut units = UNTOUCHED;
-    match unsafe { exported::comparison_amount(field.as_ptr(), field.len(), precision, places, &mut units) } {
-        0 => Some(units),
-        number => {
-            assert_eq!((number, units), (3, UNTOUCHED));
-            None
-        }
+/// What a field of Number(precision, scale) says. What an answer doesn't have is 0.
+pub fn amount(field: &[u8], precision: u64, scale: u64) -> Amount {
+    match unsafe { exported::intake_amount(field.as_ptr(), field.len(), precision, scale) } {
+        exported::Reading { number: 0, filled: 0, units: 0 } => Amount::Missing,
+        exported::Reading { number: 0, filled: 1, units } => Amount::Value(units),
+        exported::Reading { number: 3, filled: 1, units: 0 } => Amount::Misses,
+        other => panic!("the reading of an amount answers {other:?}"),
     }
 }
 

@@ -7,6 +7,7 @@
 //! - Answered: number, line, added and held of Book; the checksum of the run's bytes after it; number and six sums of Totals; and for
 //!   each Find the site, the day, and the number, whether one is found and its place.
 
+use crate::digest::Digest;
 use compare::proved::bytes_of;
 use reference::booking::Answer;
 use reference::generate::history::Call;
@@ -75,21 +76,21 @@ impl Recording {
     }
 }
 
-fn words_of_booking(answer: Answer) -> [u64; 4] {
+pub fn words_of_booking(answer: Answer) -> [u64; 4] {
     match answer {
         Answer::Booked { added, held } => [0, 0, added as u64, held as u64],
         Answer::Refused(refusal) => [refusal.number.into(), refusal.line.into(), 0, 0],
     }
 }
 
-fn words_of_totals(answer: Result<Totals, u32>) -> [u64; 7] {
+pub fn words_of_totals(answer: Result<Totals, u32>) -> [u64; 7] {
     let number = answer.err().unwrap_or(0);
     let Totals { live, held } = answer.unwrap_or_default();
     let sums = [live.charge, live.usage_kwh, live.usage_gj, held.charge, held.usage_kwh, held.usage_gj].map(|sum| sum as u64);
     [number.into(), sums[0], sums[1], sums[2], sums[3], sums[4], sums[5]]
 }
 
-fn words_of_find(answer: Result<Option<usize>, u32>) -> [u64; 3] {
+pub fn words_of_find(answer: Result<Option<usize>, u32>) -> [u64; 3] {
     match answer {
         Ok(Some(place)) => [0, 1, place as u64],
         Ok(None) => [0, 0, 0],
@@ -97,7 +98,8 @@ fn words_of_find(answer: Result<Option<usize>, u32>) -> [u64; 3] {
     }
 }
 
-/// FNV-1a, of 64 bits.
 fn checksum(bytes: &[u8]) -> u64 {
-    bytes.iter().fold(0xcbf2_9ce4_8422_2325, |sum, byte| (sum ^ u64::from(*byte)).wrapping_mul(0x100_0000_01b3))
+    let mut digest = Digest::new();
+    digest.fold_bytes(bytes);
+    digest.value()
 }

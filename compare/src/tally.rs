@@ -1,5 +1,6 @@
 //! Counts inputs on which both sides have the same answer.
 
+use crate::digest::Digest;
 use std::fmt::Debug;
 
 pub struct Tally {
@@ -21,6 +22,12 @@ impl Tally {
 
     pub fn report(self, what: &str) -> u64 {
         println!("{what}: {} inputs, {} accepted", self.inputs, self.accepted);
+        self.inputs
+    }
+
+    /// The same, with the digest of what the proved functions answered.
+    pub fn report_with(self, what: &str, digest: &Digest) -> u64 {
+        println!("{what}: {} inputs, {} accepted, digest {digest}", self.inputs, self.accepted);
         self.inputs
     }
 }

@@ -1,6 +1,6 @@
 //! A file's records as numbers, each field read once.
 
-use crate::fields::{fixed_digits, value_of};
+use crate::fields::{fixed_digits, value_of, Amount};
 use crate::file::{Record, RecordType, Records, MOST_FIELDS};
 use crate::periods::Period;
 
@@ -62,9 +62,11 @@ pub struct Row {
     pub is_cancel: bool,
     /// The Reference ID of a TH or OC, where it is filled.
     pub reference: Option<u64>,
-    /// The Usage Total or Usage Amount, in units of its last place.
+    /// What the Usage Total or Usage Amount counts as, in units of its last
+    /// place.
     pub usage: i64,
-    /// The Charge Total or Charge Amount, in units of its last place.
+    /// What the Charge Total or Charge Amount counts as, in units of its last
+    /// place.
     pub charge: i64,
 }
 
@@ -94,7 +96,7 @@ pub struct Bill<'file> {
     pub sender: &'file [u8],
     /// FH's commodity.
     pub commodity: Commodity,
-    /// FT's File Record Count.
+    /// What FT's File Record Count counts as.
     pub record_count: i64,
     /// The records in file order.
     pub rows: Vec<Row>,
@@ -114,7 +116,7 @@ impl<'file> Bill<'file> {
             retailer: Values::of(&header)?.get(Some(4))? as u64,
             sender: header.field(5),
             commodity: Commodity::of_code(header.field(6))?,
-            record_count: Values::of(&trailer)?.get(Some(4))?,
+            record_count: Values::of(&trailer)?.amount(Some(4)).or_zero(),
             rows,
         })
     }
@@ -161,8 +163,8 @@ fn row_of(record: &Record, parent: Option<usize>) -> Option<Row> {
             .and_then(|(start, end)| number(Some(start)).zip(number(Some(end)))),
         is_cancel: indicator.is_some_and(|number| record.field(number) == b"Y"),
         reference: number(record_type.reference_field()),
-        usage: values.get(record_type.usage_field()).unwrap_or_default(),
-        charge: values.get(record_type.charge_field()).unwrap_or_default(),
+        usage: values.amount(record_type.usage_field()).or_zero(),
+        charge: values.amount(record_type.charge_field()).or_zero(),
     })
 }
 
@@ -191,5 +193,11 @@ impl Values {
     fn get(&self, number: Option<usize>) -> Option<i64> {
         let place = number? - 1;
         (self.filled >> place & 1 == 1).then(|| self.values[place])
+    }
+
+    /// The amount in the field of a number, which fits its type. Where the type
+    /// has no such field it is missing.
+    fn amount(&self, number: Option<usize>) -> Amount {
+        self.get(number).map_or(Amount::Missing, Amount::Value)
     }
 }

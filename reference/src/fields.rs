@@ -10,13 +10,29 @@ pub const AMOUNT_PRECISION: u32 = 15;
 /// The greatest number of digits of a Record, Parent or Reference ID.
 pub const IDENTIFIER_DIGITS: usize = 15;
 
-/// The value of an amount field, or that the field misses its type.
+/// What reading an amount answers: "missing, exactly for an empty field, or a
+/// value, or as before that it misses its type" (document 02, 1).
 #[derive(Clone, Copy, Debug, PartialEq, Eq)]
 pub enum Amount {
+    /// The field is empty.
+    Missing,
     /// A whole number of units of the last place.
     Value(i64),
-    /// The field isn't a Number(p,s).
+    /// The field is filled and has no value of a Number(p,s).
     Misses,
+}
+
+impl Amount {
+    /// What the amount counts as where it is added or compared: "An empty amount
+    /// that isn't mandatory counts as zero." "All sums still count missing as
+    /// zero, and every caller must say so itself." (document 02, 1). One that
+    /// misses its type has no value either; test 3 refuses it.
+    pub const fn or_zero(self) -> i64 {
+        match self {
+            Amount::Value(units) => units,
+            Amount::Missing | Amount::Misses => 0,
+        }
+    }
 }
 
 /// The data types of Tables 4-2 to 4-10.
@@ -46,8 +62,8 @@ pub fn fits(field_type: FieldType, field: &[u8]) -> bool {
 }
 
 /// The value of a field that isn't empty: of an ID or digits the number, of a
-/// date its day, of an amount its units, of other types 0. None if the field
-/// misses its type.
+/// date its day, of an amount its units, of other types and of wider numbers 0.
+/// None if the field misses its type.
 pub fn value_of(field_type: FieldType, field: &[u8]) -> Option<i64> {
     match field_type {
         FieldType::RecordId => identifier_of(field).map(|id| id as i64),
@@ -67,11 +83,11 @@ pub fn value_of(field_type: FieldType, field: &[u8]) -> Option<i64> {
 
 /// The amount in a field: "an optional minus, 1 to p - s digits, then
 /// optionally a point and 1 to s digits. It is read as a whole number of units
-/// of its last place." "An empty amount that isn't mandatory counts as zero."
-/// Wider than 15 digits, nothing but the empty field is an amount.
+/// of its last place." The empty field is missing, whatever the width. Of a
+/// filled one wider than 15 digits no value is read.
 pub fn amount_of(field: &[u8], precision: u32, places: u32) -> Amount {
     if field.is_empty() {
-        return Amount::Value(0);
+        return Amount::Missing;
     }
     if precision > AMOUNT_PRECISION {
         return Amount::Misses;
@@ -199,9 +215,29 @@ mod tests {
         }
     }
 
+    /// "missing, exactly for an empty field": a zero is a value, and a blank of
+    /// spaces misses its type.
+    #[test]
+    fn a_missing_amount_is_no_zero() {
+        assert_eq!(amount_of(b"", 11, 2), Amount::Missing);
+        assert_eq!(amount_of(b"12.50", 11, 2), Amount::Value(1250));
+        for zero in [&b"0"[..], b"-0", b"00", b"0.00", b"-00.0"] {
+            assert_eq!(amount_of(zero, 11, 2), Amount::Value(0));
+        }
+        for blank in [&b" "[..], b"  ", b"   ", b"\t", b"0 ", b" 0"] {
+            assert_eq!(amount_of(blank, 11, 2), Amount::Misses);
+        }
+    }
+
+    #[test]
+    fn missing_counts_as_zero() {
+        assert_eq!(Amount::Missing.or_zero(), 0);
+        assert_eq!(Amount::Value(-1250).or_zero(), -1250);
+        assert_eq!(Amount::Misses.or_zero(), 0);
+    }
+
     #[test]
     fn amounts_at_their_limits() {
-        assert_eq!(amount_of(b"", 11, 2), Amount::Value(0));
         assert_eq!(amount_of(b"999999999.99", 11, 2), Amount::Value(99_999_999_999));
         assert_eq!(amount_of(b"-999999999.99", 11, 2), Amount::Value(-99_999_999_999));
         assert_eq!(amount_of(b"000000012.5", 11, 2), Amount::Value(1250));
@@ -230,11 +266,16 @@ mod tests {
     #[test]
     fn widths_that_hold_no_amount() {
         assert_eq!(amount_of(b"1", 16, 2), Amount::Misses);
-        assert_eq!(amount_of(b"", 16, 2), Amount::Value(0));
+        assert_eq!(amount_of(b"", 16, 2), Amount::Missing);
+        assert_eq!(amount_of(b"1.000000000000", 19, 12), Amount::Misses);
+        assert_eq!(amount_of(b"0", 19, 12), Amount::Misses);
+        assert_eq!(amount_of(b" ", 19, 12), Amount::Misses);
+        assert_eq!(amount_of(b"", 19, 12), Amount::Missing);
+        assert_eq!(amount_of(b"", u32::MAX, 0), Amount::Missing);
         assert_eq!(amount_of(b"1", 2, 3), Amount::Misses);
         assert_eq!(amount_of(b"0", 4, 4), Amount::Misses);
         assert_eq!(amount_of(b"0", 0, 0), Amount::Misses);
-        assert_eq!(amount_of(b"", 2, 3), Amount::Value(0));
+        assert_eq!(amount_of(b"", 2, 3), Amount::Missing);
     }
 
     #[test]

@@ -353,6 +353,19 @@ impl RecordType {
         NULL_FIELDS[self as usize]
     }
 
+    /// The numbers of the fields that hold amounts: those of type Number(p,s),
+    /// of any width. IDs are none.
+    pub fn amount_fields(self) -> impl Iterator<Item = usize> {
+        let is_amount = |field: &Field| matches!(field.field_type, Number(..));
+        let numbered = self.fields().iter().zip(1..);
+        numbered.filter(move |(field, _)| is_amount(field)).map(|(_, number)| number)
+    }
+
+    /// The numbers of the amount fields that test 5 lets be empty.
+    pub fn optional_amount_fields(self) -> impl Iterator<Item = usize> {
+        self.amount_fields().filter(move |number| self.mandatory_fields() >> (number - 1) & 1 == 0)
+    }
+
     /// Whether a record of the other type may come right after one of this.
     pub const fn may_precede(self, next: RecordType) -> bool {
         MAY_FOLLOW[self as usize][next as usize]
@@ -627,6 +640,33 @@ mod tests {
         }
         assert_eq!(RecordType::of_code(b"fh"), None);
         assert_eq!(RecordType::of_code(b""), None);
+    }
+
+    /// Of the amounts that are added or compared, none may be empty.
+    #[test]
+    fn amounts_that_may_be_empty() {
+        let optional = RECORD_TYPES.map(|record_type| {
+            let numbers = record_type.optional_amount_fields();
+            (record_type.code(), numbers.collect::<Vec<usize>>())
+        });
+        let expected = [
+            ("FH", vec![]),
+            ("SH", vec![]),
+            ("TH", vec![9]),
+            ("DU", vec![10, 11, 13, 15]),
+            ("DD", vec![13, 14]),
+            ("DM", vec![]),
+            ("CH", vec![]),
+            ("OC", vec![8]),
+            ("FT", vec![]),
+        ];
+        assert_eq!(optional, expected);
+        for record_type in RECORD_TYPES {
+            let is_summed = |number: &usize| {
+                [record_type.usage_field(), record_type.charge_field()].contains(&Some(*number))
+            };
+            assert!(!record_type.optional_amount_fields().any(|number| is_summed(&number)));
+        }
     }
 
     #[test]

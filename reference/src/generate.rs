@@ -31,7 +31,8 @@ pub enum Style {
     Sample,
     /// All that document 01 allows: days of the whole calendar, leading zeros,
     /// minus zero, either line end, rebills before their cancels, periods that
-    /// overlap earlier ones, a site under two Site Headers.
+    /// overlap earlier ones, a site under two Site Headers, amounts that aren't
+    /// mandatory left out or 0.
     Varied,
 }
 
@@ -519,6 +520,7 @@ impl Generator {
         trailer.set(5, amount_text(plans.iter().map(SitePlan::charge).sum(), 2));
         draft.records.push(trailer);
         if self.style == Style::Varied {
+            self.vary_optional_amounts(&mut draft);
             self.vary_notation(&mut draft);
         }
         draft
@@ -577,6 +579,23 @@ impl Generator {
         record_id
     }
 
+    /// Leaves out a third of the amounts that aren't mandatory, and puts a zero
+    /// in the place of another third. No test reads their values.
+    fn vary_optional_amounts(&mut self, draft: &mut Draft) {
+        for record in &mut draft.records {
+            for number in record.record_type.optional_amount_fields() {
+                match self.random.below(3) {
+                    0 => record.set(number, ""),
+                    1 => {
+                        let field_type = record.record_type.fields()[number - 1].field_type;
+                        record.set(number, some_zero(&mut self.random, field_type));
+                    }
+                    _ => {}
+                }
+            }
+        }
+    }
+
     /// Writes some IDs and amounts in other forms of the same value.
     fn vary_notation(&mut self, draft: &mut Draft) {
         for record in &mut draft.records {
@@ -614,6 +633,14 @@ impl Generator {
             return format!("{sign}{whole}");
         }
         format!("{sign}{whole}.{fraction:0<width$}", width = places as usize)
+    }
+}
+
+/// A zero that fits a Number(p,s).
+fn some_zero(random: &mut Random, field_type: FieldType) -> &'static str {
+    match field_type {
+        FieldType::Number(_, 2..) => random.pick(&["0", "-0", "0.00", "-0.00"]),
+        _ => random.pick(&["0", "-0"]),
     }
 }
 

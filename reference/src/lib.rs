@@ -1,7 +1,8 @@
-//! Tariff bill file intake and ledger, written a second time from document 01
-//! and Rule 004 alone, so that the product can be compared with it.
+//! Tariff bill file intake and ledger, written a second time from document 01,
+//! the requests of document 02 that have landed, and Rule 004 alone, so that the
+//! product can be compared with it.
 //!
-//! Each item cites the sentence of document 01 that it implements.
+//! Each item cites the sentence of document 01 or 02 that it implements.
 
 #![forbid(unsafe_code)]
 #![warn(missing_docs)]

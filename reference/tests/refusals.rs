@@ -76,6 +76,25 @@ fn test_5_mandatory_fields() {
     assert_eq!(changed(1, 8, ""), (0, 0));
 }
 
+/// An amount that is left out is answered as 0 is where it isn't mandatory, and
+/// by 5 where it is. A blank of spaces misses its type.
+#[test]
+fn amounts_left_out() {
+    for (line, number) in [(3, 9), (4, 10), (4, 11), (4, 13), (4, 15), (5, 13), (5, 14), (11, 8)] {
+        for field in ["", "0", "-0"] {
+            assert_eq!(changed(line, number, field), (0, 0));
+        }
+        for field in [" ", "   "] {
+            assert_eq!(changed(line, number, field), (3, line as u32));
+        }
+    }
+    for (line, number) in [(2, 12), (2, 14), (3, 12), (3, 14), (4, 16), (7, 17), (7, 18), (11, 10)]
+    {
+        assert_eq!(changed(line, number, ""), (5, line as u32));
+        assert_eq!(changed(line, number, " "), (3, line as u32));
+    }
+}
+
 #[test]
 fn test_7_codes() {
     assert_eq!(changed(1, 6, "XX"), (7, 1));

@@ -1,4 +1,5 @@
 pub mod Amounts
 pub mod InsideMagnitudes
-pub mod InsideSigned
+pub mod InsideSaid
 pub mod InsideSums
+pub mod Replies

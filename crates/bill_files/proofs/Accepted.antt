@@ -36,6 +36,7 @@ use Rattle.tables.specs.Types.{FH, TH, OC}
 use Rattle.records.specs.Records.{recordFields, field, typeIn}
 use Rattle.tables.specs.Tables.{fieldCount, fieldType, isMandatory}
 use Rattle.records.proofs.Laws.{fields-known}
+use Rattle.amounts.specs.Amounts.{orZero}
 use Rattle.columns.specs.Columns.{fieldOf, fieldIn, usageIn, recordId, site, reference, startDay, endDay}
 use Rattle.columns.proofs.Laws.{map-at, number-small, charge-bound, usage-bound}
 use Rattle.format.specs.Format.{lineAt}
@@ -320,12 +321,12 @@ module _ {retailer : ℕ} {distributors : List ℕ} {lines : List (List ℕ)} (p
         day-high true = day-or-zero-bound (fieldIn endDay line)
         day-high false = lit≤ tt
 
-        usage-small : (b : Bool) → natAbs (cond b (usageIn line) (pos 0)) < 10 ^ 15
+        usage-small : (b : Bool) → natAbs (cond b (orZero (usageIn line)) (pos 0)) < 10 ^ 15
         usage-small true = usage-bound line
         usage-small false = lit< tt
 
         nothing-kept : (b : Bool) → _≡_ {A = ℕ} (cond b 2 3) 3
-            → (cond b (dayOrZero (dayOf (fieldIn startDay line))) 0 ≡ 0) × (cond b (dayOrZero (dayOf (fieldIn endDay line))) 0 ≡ 0) × (cond b (usageIn line) (pos 0) ≡ pos 0)
+            → (cond b (dayOrZero (dayOf (fieldIn startDay line))) 0 ≡ 0) × (cond b (dayOrZero (dayOf (fieldIn endDay line))) 0 ≡ 0) × (cond b (orZero (usageIn line)) (pos 0) ≡ pos 0)
         nothing-kept true e = absurd (omega (arith, e))
         nothing-kept false e = (refl, refl, refl)
 

@@ -1,4 +1,5 @@
 pub mod Accepted
+pub mod Before
 pub mod FileIds
 pub mod Lines
 pub mod Passing

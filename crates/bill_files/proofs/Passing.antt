@@ -11,11 +11,11 @@ use native.Mathlib.Omega.{arith}
 use borrow.Author.Tests.{eqb-false, ne-eqb}
 use lib.Dec.{eqb, ltb}
 use lib.ListN.{length}
-use lib.IntN.{ℤ}
 use Rattle.lists.proofs.Below.{first-at-most}
 use Rattle.calendar.specs.declared.Day.the-variants.{At}
 use Rattle.records.specs.Text.{linesOf}
 use Rattle.tables.specs.Types.{SH, TH, DU, CH, OC, FT}
+use Rattle.amounts.specs.declared.Amount.{Amount}
 use Rattle.columns.specs.Columns.{numberIn, chargeIn, usageIn, recordId, parentId, site, startDay, endDay, cancel}
 use Rattle.tables.specs.Groups.{at, parentPlaces, picked, allPlaces, ones}
 use Rattle.tables.proofs.RecordTypes.{parents-length}
@@ -186,7 +186,7 @@ record-is : (n m place : ℕ) {P : Type 0} → place ≤ m → m ≡ n → ((pla
 record-is n m place most size is = (λ e. is .0 (omega (arith, record-none n place (omega arith) e)), λ h. none-record n place (omega (arith, is .1 h)))
 
 module _ (retailer : ℕ) (distributors : List ℕ) (lines : List (List ℕ)) where
-  total-is : (members : List ℕ) (low high : ℕ) (values : List ℕ) (amounts : List ℤ) {P : Type 0} → (TotalsRight members (picked (types lines) values low high) amounts ↔ P)
+  total-is : (members : List ℕ) (low high : ℕ) (values : List ℕ) (amounts : List Amount) {P : Type 0} → (TotalsRight members (picked (types lines) values low high) amounts ↔ P)
       → (ltb (firstWrongTotal members (picked (types lines) values low high) amounts) (length lines) ≡ false) ↔ P
   unfolding firstWrongTotal
   total-is members low high values amounts is =

@@ -14,9 +14,12 @@ use native.Mathlib.Omega.{arith}
 use borrow.Author.Tests.{eqb-true, eqb-false, eq-eqb, ne-eqb, leb-true, le-leb}
 use lib.Dec.{eqb, leb}
 use lib.ListN.{length}
-use lib.IntN.{ℤ, pos}
+use lib.IntN.{ℤ}
 use Rattle.digits.specs.declared.Number.{Number}
 use Rattle.digits.specs.declared.Number.the-variants.{Value, Other}
+use Rattle.amounts.specs.declared.Amount.{Amount}
+use Rattle.amounts.specs.declared.Amount.the-variants.{Missing}
+use Rattle.amounts.specs.Amounts.{orZero}
 use Rattle.tables.specs.Types.{SH, TH, FT}
 use Rattle.columns.specs.Columns.{numberInColumn, site}
 use Rattle.columns.proofs.Laws.{map-at, number-kept}
@@ -42,7 +45,7 @@ only-type t a = (
 -- ---- an owner's amount is the sum over its records
 -- the records of the types `low` to `high` have `values`, the owners, of the type `owner`, have `owned`: Owns i g says that the owner at i has the number g and one,
 -- and counts b g k that the record at k has it, b being whether its type is one of those
-module _ (lines : List (List ℕ)) (low high owner : ℕ) (values owned : List ℕ) (amount : List ℕ → ℤ) (Owns : ℕ → ℕ → Type 0) (counts : Bool → ℕ → ℕ → Bool)
+module _ (lines : List (List ℕ)) (low high owner : ℕ) (values owned : List ℕ) (amount : List ℕ → Amount) (Owns : ℕ → ℕ → Type 0) (counts : Bool → ℕ → ℕ → Bool)
     (owned-is : (i g : ℕ) → i < length lines → (at owned i ≡ suc g) ↔ Owns i g)
     (counts-is : (i g : ℕ) → Owns i g → (k : ℕ) → k < length lines → (b : Bool) → eqb (cond b (at values k) 0) (suc g) ≡ counts b g k) where
   abbrev members : List ℕ
@@ -59,7 +62,7 @@ module _ (lines : List (List ℕ)) (low high owner : ℕ) (values owned : List �
   unfolding groupSum sumOf
   sum-is i g o zero h = refl
   sum-is i g o (suc n) h =
-      rw (sum-is i g o n (omega arith), picked-is lines low high values n h, counts-is i g o n h (isOfType low high lines n), map-at amount [] (pos 0) lines n h)
+      rw (sum-is i g o n (omega arith), picked-is lines low high values n h, counts-is i g o n h (isOfType low high lines n), map-at amount [] Missing lines n h)
 
   module _ (i : ℕ) (h : i < length lines) where
     owner-is : (g : ℕ) → (at owners i ≡ suc g) ↔ ((typeAt lines i ≡ owner) × Owns i g)
@@ -72,23 +75,23 @@ module _ (lines : List (List ℕ)) (low high owner : ℕ) (values owned : List �
         go true q e = (only-type (typeAt lines i) owner .0 q, owned-is i g h .0 e)
         go false q e = absurd (omega (arith, e))
 
-  totals-are : TotalsRight members owners (map amount lines) ↔ ((i g : ℕ) → i < length lines → typeAt lines i ≡ owner → Owns i g → amount (lineAt lines i) ≡ total g)
+  totals-are : TotalsRight members owners (map amount lines) ↔ ((i g : ℕ) → i < length lines → typeAt lines i ≡ owner → Owns i g → orZero (amount (lineAt lines i)) ≡ total g)
   totals-are = (
     λ right i g h type o.
         let q = owner-is i h g .1 (type, o) in
-        sym (map-at amount [] (pos 0) lines i h) ∙ sym (rw (q, size) at (right i (omega (arith, size)) (λ z. omega (arith, q)))) ∙ sum-is i g o (length lines) (le-refl (length lines)),
+        sym (ap orZero (map-at amount [] Missing lines i h)) ∙ sym (rw (q, size) at (right i (omega (arith, size)) (λ z. omega (arith, q)))) ∙ sum-is i g o (length lines) (le-refl (length lines)),
     λ all i h owns. let l : i < length lines = omega (arith, size) in go i l (all i) (at owners i) refl owns,
   )
     where
       size : length owners ≡ length lines
       size = picked-size lines owner owner owned
 
-      go : (i : ℕ) → i < length lines → ((g : ℕ) → i < length lines → typeAt lines i ≡ owner → Owns i g → amount (lineAt lines i) ≡ total g)
-          → (group : ℕ) → at owners i ≡ group → (at owners i ≡ 0 → ⊥) → groupSum members (map amount lines) (at owners i) (length owners) ≡ amountAt (map amount lines) i
+      go : (i : ℕ) → i < length lines → ((g : ℕ) → i < length lines → typeAt lines i ≡ owner → Owns i g → orZero (amount (lineAt lines i)) ≡ total g)
+          → (group : ℕ) → at owners i ≡ group → (at owners i ≡ 0 → ⊥) → groupSum members (map amount lines) (at owners i) (length owners) ≡ orZero (amountAt (map amount lines) i)
       go i h all zero q owns = absurd (owns q)
       go i h all (suc g) q owns =
           let w = owner-is i h g .0 q in
-          rw (q, size) (sum-is i g (w .1) (length lines) (le-refl (length lines)) ∙ sym (all g h (w .0) (w .1)) ∙ sym (map-at amount [] (pos 0) lines i h))
+          rw (q, size) (sum-is i g (w .1) (length lines) (le-refl (length lines)) ∙ sym (all g h (w .0) (w .1)) ∙ sym (ap orZero (map-at amount [] Missing lines i h)))
 
 -- an owner that has one number only
 one-group : (n : ℕ) (group : ℕ → ℕ) (T : ℕ → Type 0) (F : ℕ → ℕ → Type 0)
@@ -119,29 +122,29 @@ one-counts : (b : Bool) → eqb (cond b 1 0) 1 ≡ b
 one-counts true = refl
 one-counts false = refl
 
-module _ (lines : List (List ℕ)) (low high : ℕ) (amount : List ℕ → ℤ) where
+module _ (lines : List (List ℕ)) (low high : ℕ) (amount : List ℕ → Amount) where
   pub site-totals : TotalsRight (sitesOf low high lines) (sitesOf SH SH lines) (map amount lines)
       ↔ ((i s : ℕ) → i < length lines → typeAt lines i ≡ SH → idAt site lines i ≡ Value s
-      → amount (lineAt lines i) ≡ sumOf (isOfSite low high lines s) (λ (k : ℕ). amount (lineAt lines k)) (length lines))
+      → orZero (amount (lineAt lines i)) ≡ sumOf (isOfSite low high lines s) (λ (k : ℕ). amount (lineAt lines k)) (length lines))
   site-totals =
       totals-are lines low high SH (numbers site lines) (numbers site lines) amount (λ i s. idAt site lines i ≡ Value s) (λ b s k. b && isValue s (idAt site lines k))
       (λ i s h. (λ e. number-kept (idAt site lines i) s (sym (id-at lines i h site (refl, refl)) ∙ e), λ e. id-at lines i h site (refl, refl) ∙ ap numberInColumn e ∙ add-one s))
       (λ i s o k h b. rw (id-at lines k h site (refl, refl)) (kept-counts (idAt site lines k) s b))
 
   pub own-totals : TotalsRight (parentsOf low high lines) (placesOf TH TH lines) (map amount lines)
-      ↔ ((i : ℕ) → i < length lines → typeAt lines i ≡ TH → amount (lineAt lines i) ≡ sumOf (isOwn low high lines i) (λ (k : ℕ). amount (lineAt lines k)) (length lines))
+      ↔ ((i : ℕ) → i < length lines → typeAt lines i ≡ TH → orZero (amount (lineAt lines i)) ≡ sumOf (isOwn low high lines i) (λ (k : ℕ). amount (lineAt lines k)) (length lines))
   own-totals =
       Iff·trans
       (totals-are lines low high TH (parentPlaces (types lines)) (allPlaces (length lines)) amount (λ i g. i ≡ g) (λ b g k. b && eqb (parentPlace (types lines) k) (suc g))
       (λ i g h. (λ e. omega (arith, e, place-at (length lines) i h), λ e. omega (arith, e, place-at (length lines) i h)))
       (λ i g o k h b. rw (parent-at (types lines) k (omega (arith, types-length lines))) (place-counts (parentPlace (types lines) k) g b)))
-      (one-group (length lines) (λ i. i) (λ i. typeAt lines i ≡ TH) (λ i g. amount (lineAt lines i) ≡ sumOf (isOwn low high lines g) (λ (k : ℕ). amount (lineAt lines k)) (length lines)))
+      (one-group (length lines) (λ i. i) (λ i. typeAt lines i ≡ TH) (λ i g. orZero (amount (lineAt lines i)) ≡ sumOf (isOwn low high lines g) (λ (k : ℕ). amount (lineAt lines k)) (length lines)))
 
   pub file-totals : TotalsRight (onesOf low high lines) (onesOf FT FT lines) (map amount lines)
-      ↔ ((i : ℕ) → i < length lines → typeAt lines i ≡ FT → amount (lineAt lines i) ≡ sumOf (isOfType low high lines) (λ (k : ℕ). amount (lineAt lines k)) (length lines))
+      ↔ ((i : ℕ) → i < length lines → typeAt lines i ≡ FT → orZero (amount (lineAt lines i)) ≡ sumOf (isOfType low high lines) (λ (k : ℕ). amount (lineAt lines k)) (length lines))
   file-totals =
       Iff·trans
       (totals-are lines low high FT (ones (length lines)) (ones (length lines)) amount (λ i g. 0 ≡ g) (λ b g k. b)
       (λ i g h. (λ e. omega (arith, e, one-at (length lines) i h), λ e. omega (arith, e, one-at (length lines) i h)))
       (λ i g o k h b. rw (one-at (length lines) k h) (rw (← o) (one-counts b))))
-      (one-group (length lines) (λ i. 0) (λ i. typeAt lines i ≡ FT) (λ i g. amount (lineAt lines i) ≡ sumOf (isOfType low high lines) (λ (k : ℕ). amount (lineAt lines k)) (length lines)))
+      (one-group (length lines) (λ i. 0) (λ i. typeAt lines i ≡ FT) (λ i g. orZero (amount (lineAt lines i)) ≡ sumOf (isOfType low high lines) (λ (k : ℕ). amount (lineAt lines k)) (length lines)))

@@ -15,6 +15,9 @@ use lib.ListN.{length}
 use lib.IntN.{ℤ, pos, _+ℤ_, +ℤ-idl, +ℤ-idr, +ℤ-assoc}
 use Rattle.tables.specs.Types.{FH, TH, CH, OC, FT, mayFollow, parentType}
 use Rattle.records.specs.Records.{typeIn}
+use Rattle.amounts.specs.declared.Amount.{Amount}
+use Rattle.amounts.specs.declared.Amount.the-variants.{Missing}
+use Rattle.amounts.specs.Amounts.{orZero}
 use Rattle.columns.specs.Columns.{chargeIn}
 use Rattle.columns.proofs.Laws.{map-at}
 use Rattle.tables.specs.Groups.{at, parentPlace, allPlaces, ones}
@@ -35,7 +38,7 @@ use Rattle.bill_files.proofs.Sums.{own-totals, file-totals}
 -- ════ the charges of the lines that a test picks
 unfoldable pub sumWhere : (List ℕ → Bool) → List (List ℕ) → ℤ
 sumWhere pick [] = pos 0
-sumWhere pick (line ∷ lines) = cond (pick line) (chargeIn line) (pos 0) +ℤ sumWhere pick lines
+sumWhere pick (line ∷ lines) = cond (pick line) (orZero (chargeIn line)) (pos 0) +ℤ sumWhere pick lines
 
 abbrev one : Bool → ℕ
 one b = cond b 1 0
@@ -46,14 +49,14 @@ marks pick lines = map (λ (line : List ℕ). one (pick line)) lines
 mark-at : (pick : List ℕ → Bool) (lines : List (List ℕ)) (i : ℕ) → i < length lines → at (marks pick lines) i ≡ one (pick (lineAt lines i))
 mark-at pick lines i h = map-at (λ (line : List ℕ). one (pick line)) [] 0 lines i h
 
-charge-at : (lines : List (List ℕ)) (i : ℕ) → i < length lines → amountAt (charges lines) i ≡ chargeIn (lineAt lines i)
-charge-at lines i h = map-at chargeIn [] (pos 0) lines i h
+charge-at : (lines : List (List ℕ)) (i : ℕ) → i < length lines → orZero (amountAt (charges lines) i) ≡ orZero (chargeIn (lineAt lines i))
+charge-at lines i h = ap orZero (map-at chargeIn [] Missing lines i h)
 
 -- a sum is taken from the first record on as well as from the last
-sum-first : (m : ℕ) (members : List ℕ) (a : ℤ) (amounts : List ℤ) (group n : ℕ)
-    → groupSum (m ∷ members) (a ∷ amounts) group (suc n) ≡ cond (eqb m group) a (pos 0) +ℤ groupSum members amounts group n
+sum-first : (m : ℕ) (members : List ℕ) (a : Amount) (amounts : List Amount) (group n : ℕ)
+    → groupSum (m ∷ members) (a ∷ amounts) group (suc n) ≡ cond (eqb m group) (orZero a) (pos 0) +ℤ groupSum members amounts group n
 unfolding groupSum
-sum-first m members a amounts group zero = let x : ℤ = cond (eqb m group) a (pos 0) in +ℤ-idl x ∙ sym (+ℤ-idr x)
+sum-first m members a amounts group zero = let x : ℤ = cond (eqb m group) (orZero a) (pos 0) in +ℤ-idl x ∙ sym (+ℤ-idr x)
 sum-first m members a amounts group (suc n) = rw (sum-first m members a amounts group n, +ℤ-assoc)
 
 marked-one : (b : Bool) (x : ℤ) → cond (eqb (one b) 1) x (pos 0) ≡ cond b x (pos 0)
@@ -65,7 +68,7 @@ unfolding groupSum sumWhere
 sum-marks pick [] = refl
 sum-marks pick (line ∷ lines) =
     sum-first _ (marks pick lines) (chargeIn line) (charges lines) 1 (length lines)
-    ∙ rw (sum-marks pick lines, marked-one (pick line) (chargeIn line))
+    ∙ rw (sum-marks pick lines, marked-one (pick line) (orZero (chargeIn line)))
 
 -- one test, as two that never hold together
 Parted : (a b c : List ℕ → Bool) → Type 0
@@ -74,7 +77,7 @@ Parted a b c = (line : List ℕ) (x : ℤ) → cond (c line) x (pos 0) ≡ cond 
 sum-apart : (a b c : List ℕ → Bool) → Parted a b c → (lines : List (List ℕ)) → sumWhere c lines ≡ sumWhere a lines +ℤ sumWhere b lines
 unfolding sumWhere Parted
 sum-apart a b c apart [] = refl
-sum-apart a b c apart (line ∷ lines) = rw (apart line (chargeIn line), sum-apart a b c apart lines, crossed)
+sum-apart a b c apart (line ∷ lines) = rw (apart line (orZero (chargeIn line)), sum-apart a b c apart lines, crossed)
 
 -- the charges of the bills are those of the lines that are bills
 bills-sum : (header : List ℕ) (lines : List (List ℕ)) → sumOfCharges (map (billIn header) (filter isBill lines)) ≡ sumWhere isBill lines
@@ -83,8 +86,8 @@ bills-sum header [] = refl
 bills-sum header (line ∷ lines) = go (isBill line) (bills-sum header lines)
   where
     go : (b : Bool) → sumOfCharges (map (billIn header) (filter isBill lines)) ≡ sumWhere isBill lines
-        → sumOfCharges (map (billIn header) (cond b (line ∷ filter isBill lines) (filter isBill lines))) ≡ cond b (chargeIn line) (pos 0) +ℤ sumWhere isBill lines
-    go true e = ap (λ (z : ℤ). chargeIn line +ℤ z) e
+        → sumOfCharges (map (billIn header) (cond b (line ∷ filter isBill lines) (filter isBill lines))) ≡ cond b (orZero (chargeIn line)) (pos 0) +ℤ sumWhere isBill lines
+    go true e = ap (λ (z : ℤ). orZero (chargeIn line) +ℤ z) e
     go false e = e ∙ sym (+ℤ-idl (sumWhere isBill lines))
 
 -- ---- lines by their type
@@ -198,9 +201,9 @@ module _ {retailer : ℕ} {distributors : List ℕ} {lines : List (List ℕ)} (p
         go (suc j) e = omega (arith, member-is j e .1 .before)
 
   -- the members of a TH sum up to its charge, and no record hangs under another
-  own-sum : (k : ℕ) → k < length lines → groupSum members (charges lines) (suc k) (length lines) ≡ cond (eqb (at (marks isPeriod lines) k) 1) (amountAt (charges lines) k) (pos 0)
+  own-sum : (k : ℕ) → k < length lines → groupSum members (charges lines) (suc k) (length lines) ≡ cond (eqb (at (marks isPeriod lines) k) 1) (orZero (amountAt (charges lines) k)) (pos 0)
   unfolding members parentType
-  own-sum k h = go (isPeriod (lineAt lines k)) refl ∙ rw (mark-at isPeriod lines k h) (sym (marked-one (isPeriod (lineAt lines k)) (amountAt (charges lines) k)))
+  own-sum k h = go (isPeriod (lineAt lines k)) refl ∙ rw (mark-at isPeriod lines k h) (sym (marked-one (isPeriod (lineAt lines k)) (orZero (amountAt (charges lines) k))))
     where
       owners : List ℕ
       owners = placesOf TH TH lines
@@ -214,7 +217,7 @@ module _ {retailer : ℕ} {distributors : List ℕ} {lines : List (List ℕ)} (p
       size : length owners ≡ length lines
       size = picked-size lines TH TH (allPlaces (length lines))
 
-      go : (b : Bool) → isPeriod (lineAt lines k) ≡ b → groupSum members (charges lines) (suc k) (length lines) ≡ cond b (amountAt (charges lines) k) (pos 0)
+      go : (b : Bool) → isPeriod (lineAt lines k) ≡ b → groupSum members (charges lines) (suc k) (length lines) ≡ cond b (orZero (amountAt (charges lines) k)) (pos 0)
       go true e =
           let owns = owner (eqb-true (typeAt lines k) TH e) in
           rw (owns, size) at (own-totals lines CH CH chargeIn .1 (p .period-charge) k (omega (arith, size)) (λ z. omega (arith, owns)))
@@ -235,7 +238,7 @@ module _ {retailer : ℕ} {distributors : List ℕ} {lines : List (List ℕ)} (p
       ∙ sum-marks isPeriod lines
 
   -- ---- the trailer
-  trailer-sum : chargeIn (lineAt lines (length lines - 1)) ≡ sumWhere (isAmong CH OC) lines
+  trailer-sum : orZero (chargeIn (lineAt lines (length lines - 1))) ≡ sumWhere (isAmong CH OC) lines
   trailer-sum = sym (charge-at lines last inside) ∙ sym (rw (owns, size) at (file-totals lines CH OC chargeIn .1 (p .file-charge) last (omega (arith, size)) (λ z. omega (arith, owns)))) ∙ ones-sum CH OC lines
     where
       last : ℕ

@@ -1,6 +1,6 @@
 -- What an accepted file says: its own entry, and its TH and OC as records, in file order. Booking rests on this.
 -- Document 01, "The ledger": "A period's charge and usage are its TH's totals, a one-time charge's charge is its Charge Amount; days and usage
--- are kept for periods only. Fields that a kind lacks are 0; a file entry has its trailer charge total".
+-- are kept for periods only. Fields that a kind lacks are 0; a file entry has its trailer charge total". An amount that is missing counts as zero.
 -- Assumes nothing.
 use Prim.Native.Nat.{ℕ, suc, _-_}
 use mathlib.Core.List.{List, [], _∷_, map}
@@ -18,6 +18,7 @@ use Rattle.digits.specs.Digits.{digitsOf}
 use Rattle.calendar.specs.declared.Day.{Day}
 use Rattle.calendar.specs.declared.Day.the-variants.{At, NotADate}
 use Rattle.calendar.specs.Calendar.{dayOf}
+use Rattle.amounts.specs.Amounts.{orZero}
 use Rattle.tables.specs.Types.{TH, OC}
 use Rattle.records.specs.Records.{field, typeIn}
 use Rattle.columns.specs.Columns.{fieldIn, chargeIn, usageIn, site, reference, startDay, endDay, cancel}
@@ -92,8 +93,8 @@ billIn header line =
       site = numberOrZero (digitsOf (fieldIn site line));
       start = cond (isPeriod line) (dayOrZero (dayOf (fieldIn startDay line))) 0;
       end = cond (isPeriod line) (dayOrZero (dayOf (fieldIn endDay line))) 0;
-      charge = chargeIn line;
-      usage = cond (isPeriod line) (usageIn line) (pos 0);
+      charge = orZero (chargeIn line);
+      usage = cond (isPeriod line) (orZero (usageIn line)) (pos 0);
       cancel = sameBytes (fieldIn cancel line) (written "Y");
       reference = numberOrNone (digitsOf (fieldIn reference line));
     }
@@ -113,7 +114,7 @@ billFile lines =
       sender = senderIn (lineAt lines 0);
       commodity = commodityIn (lineAt lines 0);
       recordId = idIn (lineAt lines 0);
-      total = chargeIn (lineAt lines (length lines - 1));
+      total = orZero (chargeIn (lineAt lines (length lines - 1)));
       bills = billsIn lines;
       lines = billLines 0 lines;
     }

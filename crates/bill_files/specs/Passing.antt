@@ -16,7 +16,8 @@ use Rattle.digits.specs.Digits.{digitsOf, fixedDigitsOf}
 use Rattle.calendar.specs.declared.Day.{Day}
 use Rattle.calendar.specs.declared.Day.the-variants.{At}
 use Rattle.calendar.specs.Calendar.{dayOf}
-use Rattle.amounts.specs.Amounts.{amountOf, units}
+use Rattle.amounts.specs.declared.Amount.{Amount}
+use Rattle.amounts.specs.Amounts.{amountOf, orZero}
 use Rattle.tables.specs.Types.{SH, TH, DU, CH, OC, FT, parentType}
 use Rattle.records.specs.Records.{field, typeIn}
 use Rattle.columns.specs.Columns.{fieldIn, chargeIn, usageIn, recordId, parentId, site, startDay, endDay, cancel}
@@ -43,10 +44,11 @@ isCancelAt lines i = sameBytes (fieldIn cancel (lineAt lines i)) (written "Y")
 abbrev pub dateAt : ℕ → List (List ℕ) → ℕ → Day
 dateAt column lines i = dayOf (fieldIn column (lineAt lines i))
 
-abbrev pub chargeAt : List (List ℕ) → ℕ → ℤ
+-- the amounts of the record at i
+abbrev pub chargeAt : List (List ℕ) → ℕ → Amount
 chargeAt lines i = chargeIn (lineAt lines i)
 
-abbrev pub usageAt : List (List ℕ) → ℕ → ℤ
+abbrev pub usageAt : List (List ℕ) → ℕ → Amount
 usageAt lines i = usageIn (lineAt lines i)
 
 -- the record at j is the nearest before the one at i that has the type under which its own hangs
@@ -76,10 +78,10 @@ pub record Chosen (lines : List (List ℕ)) (h i d : ℕ) : Type 0 where
   pub within : (from ≤ start) × (end ≤ to)
   pub has-day : (start ≤ d) × (d ≤ end)
 
--- ---- sums over the first n records
-unfoldable pub sumOf : (ℕ → Bool) → (ℕ → ℤ) → ℕ → ℤ
+-- ---- sums over the first n records. Request 1: "All sums still count missing as zero"
+unfoldable pub sumOf : (ℕ → Bool) → (ℕ → Amount) → ℕ → ℤ
 sumOf counts amount zero = pos 0
-sumOf counts amount (suc n) = sumOf counts amount n +ℤ cond (counts n) (amount n) (pos 0)
+sumOf counts amount (suc n) = sumOf counts amount n +ℤ cond (counts n) (orZero (amount n)) (pos 0)
 
 -- the record at k has one of the types `low` to `high`
 abbrev pub isOfType : ℕ → ℕ → List (List ℕ) → ℕ → Bool
@@ -123,16 +125,16 @@ pub record Passing (retailer : ℕ) (distributors : List ℕ) (lines : List (Lis
   -- (the later line fails). An SH with an empty billing date chooses none."
   pub no-shared-day : (i j h d : ℕ) → i < j → j < length lines → h < length lines → Chosen lines h i d → Chosen lines h j d → ⊥
   -- 29: "for each SH, its usage total is the sum of Usage Amount, .. over all the file's records of that Site ID, including those under another SH."
-  pub site-usage : (i s : ℕ) → i < length lines → typeAt lines i ≡ SH → idAt site lines i ≡ Value s → usageAt lines i ≡ sumOf (isOfSite DU DU lines s) (usageAt lines) (length lines)
+  pub site-usage : (i s : ℕ) → i < length lines → typeAt lines i ≡ SH → idAt site lines i ≡ Value s → orZero (usageAt lines i) ≡ sumOf (isOfSite DU DU lines s) (usageAt lines) (length lines)
   -- 30: "and its charge total the sum of Charge Amount in CH and OC, over all the file's records of that Site ID"
-  pub site-charge : (i s : ℕ) → i < length lines → typeAt lines i ≡ SH → idAt site lines i ≡ Value s → chargeAt lines i ≡ sumOf (isOfSite CH OC lines s) (chargeAt lines) (length lines)
+  pub site-charge : (i s : ℕ) → i < length lines → typeAt lines i ≡ SH → idAt site lines i ≡ Value s → orZero (chargeAt lines i) ≡ sumOf (isOfSite CH OC lines s) (chargeAt lines) (length lines)
   -- 31: "TH's usage .. totals are the sums over its own DU"
-  pub period-usage : (i : ℕ) → i < length lines → typeAt lines i ≡ TH → usageAt lines i ≡ sumOf (isOwn DU DU lines i) (usageAt lines) (length lines)
+  pub period-usage : (i : ℕ) → i < length lines → typeAt lines i ≡ TH → orZero (usageAt lines i) ≡ sumOf (isOwn DU DU lines i) (usageAt lines) (length lines)
   -- 32: "TH's .. charge totals are the sums over its own .. CH."
-  pub period-charge : (i : ℕ) → i < length lines → typeAt lines i ≡ TH → chargeAt lines i ≡ sumOf (isOwn CH CH lines i) (chargeAt lines) (length lines)
+  pub period-charge : (i : ℕ) → i < length lines → typeAt lines i ≡ TH → orZero (chargeAt lines i) ≡ sumOf (isOwn CH CH lines i) (chargeAt lines) (length lines)
   -- 33: "FT's record count (as Table 4-10 counts)"
-  pub record-count : units (amountOf 9 0 (field 4 (lineAt lines (length lines - 1)))) ≡ pos (length lines)
+  pub record-count : orZero (amountOf 9 0 (field 4 (lineAt lines (length lines - 1)))) ≡ pos (length lines)
   -- 34: "and the sum of Charge Amount in all CH and OC."
-  pub file-charge : (i : ℕ) → i < length lines → typeAt lines i ≡ FT → chargeAt lines i ≡ sumOf (isOfType CH OC lines) (chargeAt lines) (length lines)
+  pub file-charge : (i : ℕ) → i < length lines → typeAt lines i ≡ FT → orZero (chargeAt lines i) ≡ sumOf (isOfType CH OC lines) (chargeAt lines) (length lines)
   -- 38: "the Site ID equals the parent's, wherever both have one." Those are the records from TH to OC, and their SH or TH.
   pub same-site : (i j : ℕ) → i < length lines → OfTypeUnder TH OC lines i j → idAt site lines i ≡ idAt site lines j

@@ -47,15 +47,14 @@ pub same-tests : (words : List ℕ) (amounts : List ℤ) (places used : ℕ) (fi
 same-tests words amounts places used file h = λ t. ledgerRefusals (sym (length-entries words amounts places) t) (sym (take-entries words amounts used places h) t) file
 
 pub file-room : (size n : ℕ) → n ≤ size → size ≤ 4096
-    → FileRoom n (replicate (size * 8) 0) (replicate size (pos 0)) (replicate size (pos 0)) (replicate (wordsFor size) 0) (replicate (amountsFor size) (pos 0)) (replicate size 0) (replicate size 0)
+    → FileRoom n (replicate (size * 8) 0) (replicate size 0) (replicate size 0) (replicate (wordsFor size) 0) (replicate (amountsFor size) (pos 0)) (replicate size 0) (replicate size 0)
 file-room size n few most =
-    let lines = length-replicate {A = ℤ} size (pos 0) in
     let numbers = length-replicate {A = ℕ} size 0 in
     record {
-      columns-length = omega (arith, length-replicate {A = ℕ} (size * 8) 0, lines);
+      columns-length = omega (arith, length-replicate {A = ℕ} (size * 8) 0, numbers);
       usages-length = refl;
-      few = omega (arith, lines);
-      most = omega (arith, lines);
+      few = omega (arith, numbers);
+      most = omega (arith, numbers);
       bills = record {
         entry-room = room-fewer few (room-zeros size);
         references-room = omega (arith, numbers);

@@ -35,7 +35,7 @@ pub record Tested (i : Input) : Type 0 where
   pub passes : firstRefusal (testRefusals (i .settings .retailer) (i .settings .distributors) (linesOf (i .file))) .number ≡ 0
 
 -- room for the columns of some lines, and for their TH and OC
-pub record FileRoom (n : ℕ) (columns : List ℕ) (charges usages : List ℤ) (words : List ℕ) (amounts : List ℤ) (references at : List ℕ) : Type 0 where
+pub record FileRoom (n : ℕ) (columns charges usages words : List ℕ) (amounts : List ℤ) (references at : List ℕ) : Type 0 where
   pub columns-length : length columns ≡ 8 * length charges
   pub usages-length : length usages ≡ length charges
   pub few : n ≤ length charges

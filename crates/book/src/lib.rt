@@ -83,8 +83,8 @@ fn book_passing(
     ends: &[usize],
     n: usize,
     columns: &[u64],
-    charges: &[i64],
-    usages: &[i64],
+    charges: &[u64],
+    usages: &[u64],
     bill_words: &mut [u64],
     bill_amounts: &mut [i64],
     references: &mut [u64],
@@ -138,8 +138,8 @@ fn book_in_room(
     ends: &[usize],
     n: usize,
     columns: &mut [u64],
-    charges: &mut [i64],
-    usages: &mut [i64],
+    charges: &mut [u64],
+    usages: &mut [u64],
     bill_words: &mut [u64],
     bill_amounts: &mut [i64],
     references: &mut [u64],
@@ -202,8 +202,8 @@ fn book_256_lines(
     ensures { λ r. ⌜ Meets (inputOf retailer (now (distributors .entry)) (now (file .entry)) (entriesOf (now (words .entry)) (now (amounts .entry)) places) used) r (entriesOf (now (words .exit)) (now (amounts .exit)) places) ⌝ }
 {
     let mut columns = [0u64; 2048];
-    let mut charges = [0i64; 256];
-    let mut usages = [0i64; 256];
+    let mut charges = [0u64; 256];
+    let mut usages = [0u64; 256];
     let mut bill_words = [0u64; 2304];
     let mut bill_amounts = [0i64; 512];
     let mut references = [0u64; 256];
@@ -248,8 +248,8 @@ fn book_1024_lines(
     ensures { λ r. ⌜ Meets (inputOf retailer (now (distributors .entry)) (now (file .entry)) (entriesOf (now (words .entry)) (now (amounts .entry)) places) used) r (entriesOf (now (words .exit)) (now (amounts .exit)) places) ⌝ }
 {
     let mut columns = [0u64; 8192];
-    let mut charges = [0i64; 1024];
-    let mut usages = [0i64; 1024];
+    let mut charges = [0u64; 1024];
+    let mut usages = [0u64; 1024];
     let mut bill_words = [0u64; 9216];
     let mut bill_amounts = [0i64; 2048];
     let mut references = [0u64; 1024];
@@ -294,8 +294,8 @@ fn book_4096_lines(
     ensures { λ r. ⌜ Meets (inputOf retailer (now (distributors .entry)) (now (file .entry)) (entriesOf (now (words .entry)) (now (amounts .entry)) places) used) r (entriesOf (now (words .exit)) (now (amounts .exit)) places) ⌝ }
 {
     let mut columns = [0u64; 32768];
-    let mut charges = [0i64; 4096];
-    let mut usages = [0i64; 4096];
+    let mut charges = [0u64; 4096];
+    let mut usages = [0u64; 4096];
     let mut bill_words = [0u64; 36864];
     let mut bill_amounts = [0i64; 8192];
     let mut references = [0u64; 4096];

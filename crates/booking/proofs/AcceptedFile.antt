@@ -26,7 +26,7 @@ use Rattle.entries.specs.declared.Entry.{Entry}
 use Rattle.soundness.specs.Sound.{entryFits, opposite}
 use Rattle.soundness.specs.Meaning.{EntryFits}
 use Rattle.soundness.proofs.Meaning.{entry-means}
-use Rattle.booking.specs.Booking.{cancels, entry, fileEntry, orZero, namedEntry, cancelNamed, firstCancel, isUnnamed, isUnopposed, firstUnnamed, firstUnopposed, isStored, hasStored, Input, fileOf, ledgerOf, isBooked}
+use Rattle.booking.specs.Booking.{cancels, entry, fileEntry, idOrZero, namedEntry, cancelNamed, firstCancel, isUnnamed, isUnopposed, firstUnnamed, firstUnopposed, isStored, hasStored, Input, fileOf, ledgerOf, isBooked}
 use Rattle.booking.specs.InsidePasses.{Key, sameKey, keyOf, keys, billFits, isOpposed, AllNamed, Passes}
 use Rattle.booking.specs.Acceptable.{noBill, billAt}
 use Rattle.booking.proofs.Accepting.{LedgerPasses, search-on, accepted-unrefused}
@@ -91,7 +91,7 @@ all-at : {A : Type 0} (p : A → Bool) (other : A) (xs : List A) → ((k : ℕ) 
 all-at p other [] h = tt
 all-at p other (x ∷ xs) h = rw (h 0 (omega arith)) (all-at p other xs (λ k l. h (suc k) (omega arith)))
 
-small-reference : (r : Option ℕ) → ((n : ℕ) → r ≡ some n → n < 10 ^ 15) → orZero r < 10 ^ 15
+small-reference : (r : Option ℕ) → ((n : ℕ) → r ≡ some n → n < 10 ^ 15) → idOrZero r < 10 ^ 15
 small-reference none h = omega arith
 small-reference (some n) h = h n refl
 
@@ -106,7 +106,7 @@ bill-entry b f s low high =
       sender = f .sender;
       site = f .site;
       id = f .recordId;
-      cancels = cancels-small (eqb s 4) (orZero (b .reference)) (small-reference (b .reference) (f .reference));
+      cancels = cancels-small (eqb s 4) (idOrZero (b .reference)) (small-reference (b .reference) (f .reference));
       charge = f .charge;
       usage = f .usage;
       commodity = f .commodity;
@@ -118,7 +118,7 @@ bill-entry b f s low high =
       in-order = f .in-order;
       only-periods = λ n. ⊎-elim (λ e. absurd (n e)) (f .once) (f .kind);
       file-site = λ e. absurd (not-file e);
-      only-cancels = λ n. ap (λ (t : Bool). cond t (orZero (b .reference)) 0) (ne-eqb s 4 n);
+      only-cancels = λ n. ap (λ (t : Bool). cond t (idOrZero (b .reference)) 0) (ne-eqb s 4 n);
     }
   where
     not-file : b .kind ≡ 1 → ⊥

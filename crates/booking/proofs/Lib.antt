@@ -3,6 +3,7 @@ pub mod AcceptedFile
 pub mod Accepting
 pub mod Added
 pub mod Archive
+pub mod Before
 pub mod Desk
 pub mod Guarantee
 pub mod Kept

@@ -15,7 +15,7 @@ use Rattle.entries.specs.declared.Entry.{Entry}
 use Rattle.entries.specs.Entries.{isLive, isHeld, inState}
 use Rattle.soundness.specs.Sound.{sameSubject, opposite}
 use Rattle.soundness.proofs.Meaning.{alike-means, opposite-means}
-use Rattle.booking.specs.Booking.{entry, orZero, refersTo, isLiveOrHeld, namesEntry}
+use Rattle.booking.specs.Booking.{entry, idOrZero, refersTo, isLiveOrHeld, namesEntry}
 use Rattle.booking.specs.Acceptable.{Names}
 use Rattle.booking.specs.InsideKept.{Paired}
 use Rattle.booking.proofs.Opposites.{opposite-of}
@@ -74,7 +74,7 @@ module _ (c : Bill) (e : Entry) (t : namesEntry c e ≡ true) where
       record {
         cancel = refl;
         cancelled = refl;
-        reference = ap orZero (named .reference);
+        reference = ap idOrZero (named .reference);
         sender = named .sender;
         commodity = named .commodity;
         kind = named .kind;

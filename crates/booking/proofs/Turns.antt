@@ -12,7 +12,7 @@ use lib.Dec.{T, eqb, eqb→eq, eqb-refl}
 use Rattle.lists.specs.Selections.{filter, count}
 use Rattle.lists.proofs.Selections.{is-true, from-true, both, cases, and-left, and-right, map-append, filter-append, count-append, count-mono}
 use Rattle.bill_files.specs.Accepted.{Bill}
-use Rattle.booking.specs.Booking.{orZero, refersTo}
+use Rattle.booking.specs.Booking.{idOrZero, refersTo}
 use Rattle.booking.specs.InsidePasses.{Key, sameKey, keyOf}
 use Rattle.booking.specs.Guarantee.{fits, cancelled, cancelling, Standing, standing, atTurn, isUncancelled, cancelFitting, turn, turns}
 
@@ -61,7 +61,7 @@ Once bs = (k : Key) → count (has k) bs ≤ 1
 
 -- what a cancel's Reference ID refers to
 abbrev pub referenceKey : Bill → Key
-referenceKey c = (c .sender, orZero (c .reference))
+referenceKey c = (c .sender, idOrZero (c .reference))
 
 pub same-key : (k m : Key) → sameKey k m ≡ true → k ≡ m
 same-key k m e =
@@ -72,7 +72,7 @@ pub key-same : (k m : Key) → k ≡ m → sameKey k m ≡ true
 key-same k m e =
     subst (λ (x : Key). sameKey k x ≡ true) e (rw (is-true (eqb (k .0) (k .0)) (eqb-refl (k .0)), is-true (eqb (k .1) (k .1)) (eqb-refl (k .1))))
 
-refers : (o : Option ℕ) (n : ℕ) → T (refersTo o n) → orZero o ≡ n
+refers : (o : Option ℕ) (n : ℕ) → T (refersTo o n) → idOrZero o ≡ n
 refers none n t = absurd t
 refers (some m) n t = eqb→eq m n t
 
@@ -88,7 +88,7 @@ fits-key c b e =
     first-two (refersTo (c .reference) (b .recordId)) (eqb (c .sender) (b .sender)) (eqb (c .commodity) (b .commodity)) (eqb (c .kind) (b .kind))
     (eqb (c .site) (b .site)) (eqb (c .start) (b .start)) (eqb (c .end) (b .end)) e in
     let s : b .sender ≡ c .sender = sym (eqb→eq (c .sender) (b .sender) (h .1)) in
-    let n : b .recordId ≡ orZero (c .reference) = sym (refers (c .reference) (b .recordId) (h .0)) in
+    let n : b .recordId ≡ idOrZero (c .reference) = sym (refers (c .reference) (b .recordId) (h .0)) in
     λ i. (s i, n i)
 
 -- so a cancel fits one record at most

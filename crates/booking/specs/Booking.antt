@@ -31,9 +31,9 @@ cancels file = filter (λ b. b .cancel) (file .bills)
 abbrev pub originals : BillFile → List Bill
 originals file = filter (λ b. not (b .cancel)) (file .bills)
 
-abbrev pub orZero : Option ℕ → ℕ
-orZero none = 0
-orZero (some n) = n
+abbrev pub idOrZero : Option ℕ → ℕ
+idOrZero none = 0
+idOrZero (some n) = n
 
 -- a TH or OC in a state; a cancel, state 4, has the Record ID it cancels
 abbrev pub entry : Bill → ℕ → Entry
@@ -49,7 +49,7 @@ entry b s =
       charge = b .charge;
       usage = b .usage;
       state = s;
-      cancels = cond (eqb s 4) (orZero (b .reference)) 0;
+      cancels = cond (eqb s 4) (idOrZero (b .reference)) 0;
     }
 
 -- "Fields that a kind lacks are 0; a file entry has its trailer charge total, state 0"

@@ -12,13 +12,12 @@ use Prim.Native.Nat.{ℕ, zero, suc, _-_, _≤_, _<_}
 use native.Mathlib.Omega.{arith}
 use borrow.Author.Tests.{lt-ltb, le-leb}
 use lib.Dec.{T, eqb, ltb, leb, eqb→eq, ltb→lt, leb→le}
-use lib.IntN.{pos}
 use lib.ListN.{length, getD}
 use Rattle.lists.proofs.Table.{every, every-at, and-left, and-right}
 use Rattle.digits.specs.Digits.{digitsOf}
 use Rattle.calendar.specs.Calendar.{dayOf}
-use Rattle.amounts.specs.Amounts.{pointOf, isUnsigned, hasMinus, unsigned, isNumber, unitsOf, signed, amountOf, units}
-use Rattle.amounts.specs.declared.Amount.the-variants.{Value as Units, Misses}
+use Rattle.amounts.specs.Amounts.{pointOf, isUnsigned, hasMinus, unsigned, isNumber, unitsOf, signed, amountOf}
+use Rattle.amounts.specs.declared.Amount.the-variants.{Missing, Value as Units, Misses}
 use Rattle.amounts.proofs.Shape.{unsigned-say}
 use Rattle.fields.specs.declared.FieldType.{FieldType}
 use Rattle.fields.specs.declared.FieldType.the-variants.{RecordId, Digits, Number, Date, DateTime, Char, Varchar}
@@ -27,7 +26,7 @@ use Rattle.tables.specs.Tables.{fieldCount, fieldType}
 use Rattle.format.specs.Format.{commodityFields, unitFields, cancelFields, exemptionFields}
 use Rattle.columns.specs.Columns.{fieldTable, fieldOf, numberInColumn, dayInColumn}
 use Rattle.readings.specs.InsideLeadingBytes.{packed}
-use Rattle.amounts.specs.InsideSigned.{signedOf}
+use Rattle.amounts.specs.InsideSaid.{saidBy}
 use Rattle.readings.specs.InsideReadings.{Says}
 
 -- ---- the field k of a type, counted from 1, is of a kind; there is no field 0
@@ -117,14 +116,14 @@ module _ (f : List ℕ) (n : ℕ) where
   says-text (Char w) h s = s (leb→le w 4 h)
   says-text (Varchar w) h s = s (leb→le w 4 h)
 
-  pub says-charge : (t : FieldType) → T (isCharge t) → Says t f n → signedOf n ≡ units (amountOf 11 2 f)
+  pub says-charge : (t : FieldType) → T (isCharge t) → Says t f n → saidBy n ≡ amountOf 11 2 f
   unfolding Says
   says-charge RecordId h s = absurd h
   says-charge (Digits w) h s = absurd h
   says-charge (Number p q) h s =
       let e : p ≡ 11 = eqb→eq p 11 (and-left (eqb p 11) (eqb q 2) h) in
       let g : q ≡ 2 = eqb→eq q 2 (and-right (eqb p 11) (eqb q 2) h) in
-      s (omega arith) ∙ rw (e, g)
+      s ∙ rw (e, g)
   says-charge Date h s = absurd h
   says-charge DateTime h s = absurd h
   says-charge (Char w) h s = absurd h
@@ -142,14 +141,14 @@ unfolding fitsType amountOf isNumber
 same-amount p f low high e = go (eqb (length f) 0) (isUnsigned (p - 4) 4 (unsigned f)) refl e
   where
     go : (empty fit : Bool) → isUnsigned (p - 4) 4 (unsigned f) ≡ fit → empty || fit ≡ true
-        → cond empty (Units (pos 0)) (cond (leb p 15 && fit) (Units (signed (hasMinus f) (unitsOf 4 (unsigned f)))) Misses)
-        ≡ cond empty (Units (pos 0)) (cond (leb 14 15 && isUnsigned (14 - 4) 4 (unsigned f)) (Units (signed (hasMinus f) (unitsOf 4 (unsigned f)))) Misses)
+        → cond empty Missing (cond (leb p 15 && fit) (Units (signed (hasMinus f) (unitsOf 4 (unsigned f)))) Misses)
+        ≡ cond empty Missing (cond (leb 14 15 && isUnsigned (14 - 4) 4 (unsigned f)) (Units (signed (hasMinus f) (unitsOf 4 (unsigned f)))) Misses)
     go true fit q r = refl
     go false true q r = rw (le-leb p 15 (omega arith), wider (p - 4) 10 4 (unsigned f) (omega arith) q)
     go false false q r = absurd (false≢true r)
 
 module _ (f : List ℕ) (n : ℕ) where
-  pub says-usage : (t : FieldType) → T (isUsage t) → fitsType t f ≡ true → Says t f n → signedOf n ≡ units (amountOf 14 4 f)
+  pub says-usage : (t : FieldType) → T (isUsage t) → fitsType t f ≡ true → Says t f n → saidBy n ≡ amountOf 14 4 f
   unfolding Says
   says-usage RecordId h e s = absurd h
   says-usage (Digits w) h e s = absurd h
@@ -157,7 +156,7 @@ module _ (f : List ℕ) (n : ℕ) where
       let low : 13 ≤ p = leb→le 13 p (and-left (leb 13 p) (leb p 14) (and-left (leb 13 p && leb p 14) (eqb q 4) h)) in
       let high : p ≤ 14 = leb→le p 14 (and-right (leb 13 p) (leb p 14) (and-left (leb 13 p && leb p 14) (eqb q 4) h)) in
       let g : q ≡ 4 = eqb→eq q 4 (and-right (leb 13 p && leb p 14) (eqb q 4) h) in
-      s (omega arith) ∙ ap (λ (k : ℕ). units (amountOf p k f)) g ∙ ap units (same-amount p f low high (subst (λ (k : ℕ). fitsType (Number p k) f ≡ true) g e))
+      s ∙ ap (λ (k : ℕ). amountOf p k f) g ∙ same-amount p f low high (subst (λ (k : ℕ). fitsType (Number p k) f ≡ true) g e)
   says-usage Date h e s = absurd h
   says-usage DateTime h e s = absurd h
   says-usage (Char w) h e s = absurd h

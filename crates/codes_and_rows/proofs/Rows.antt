@@ -14,14 +14,15 @@ use Rattle.lists.specs.Bytes.{sameBytes}
 use Rattle.lists.specs.Written.{written}
 use Rattle.digits.specs.Digits.{digitsOf}
 use Rattle.calendar.specs.Calendar.{dayOf}
-use Rattle.amounts.specs.Amounts.{amountOf, units}
+use Rattle.amounts.specs.Amounts.{amountOf}
 use Rattle.records.specs.Records.{field, typeIn}
 use Rattle.tables.specs.Tables.{fieldCount, fieldType}
 use Rattle.columns.specs.Columns.{fieldOf, numberInColumn, dayInColumn, cancelInColumn, inColumn, numberIn, chargeIn, usageIn, charge, usage}
 use Rattle.readings.specs.InsideLeadingBytes.{packed, packedAfter}
-use Rattle.amounts.specs.InsideSigned.{signedOf}
+use Rattle.amounts.specs.InsideSaid.{saidBy}
+use Rattle.amounts.proofs.Sayings.{said-missing}
 use Rattle.codes_and_rows.specs.InsideFields.{NumbersRead}
-use Rattle.codes_and_rows.specs.InsideNumbers.{fieldNumber, columnNumber, columnNumbers, columnAmount}
+use Rattle.codes_and_rows.specs.InsideNumbers.{fieldNumber, columnNumber, columnNumbers}
 use Rattle.codes_and_rows.proofs.Texts.{Printable, printable-text, packed-is}
 use Rattle.codes_and_rows.proofs.FieldKinds.{hasKind, kind-at, isId, isDate, isShortText, isCharge, isUsage, says-id, says-date, says-charge, says-usage, column-kind}
 use Rattle.codes_and_rows.proofs.Codes.{stands-at, field-printable, text-number}
@@ -37,14 +38,14 @@ module _ {type : ℕ} {line numbers : List ℕ} (read : NumbersRead type line nu
   date-column zero t = read .none
   date-column (suc j) t = let here = kind-at isDate type j t in says-date (field (suc j) line) _ (fieldType type j) (here .1) (stands-at read known j (here .0) .says)
 
-  charge-column : (k : ℕ) → T (hasKind isCharge type k) → signedOf (getD numbers k 0) ≡ units (amountOf 11 2 (field k line))
-  unfolding field signedOf amountOf
-  charge-column zero t = ap signedOf (read .none)
+  charge-column : (k : ℕ) → T (hasKind isCharge type k) → saidBy (getD numbers k 0) ≡ amountOf 11 2 (field k line)
+  unfolding field amountOf
+  charge-column zero t = said-missing _ (read .none)
   charge-column (suc j) t = let here = kind-at isCharge type j t in says-charge (field (suc j) line) _ (fieldType type j) (here .1) (stands-at read known j (here .0) .says)
 
-  usage-column : (k : ℕ) → T (hasKind isUsage type k) → signedOf (getD numbers k 0) ≡ units (amountOf 14 4 (field k line))
-  unfolding field signedOf amountOf
-  usage-column zero t = ap signedOf (read .none)
+  usage-column : (k : ℕ) → T (hasKind isUsage type k) → saidBy (getD numbers k 0) ≡ amountOf 14 4 (field k line)
+  unfolding field amountOf
+  usage-column zero t = said-missing _ (read .none)
   usage-column (suc j) t =
       let here = kind-at isUsage type j t in
       let stands = stands-at read known j (here .0) in
@@ -98,10 +99,10 @@ module _ {type : ℕ} {line numbers : List ℕ} (read : NumbersRead type line nu
       unfolding SameColumn
       numbers-same column h = tabulate-at (columnNumber type numbers) 8 column h ∙ at-below SameColumn 8 columns-same column h
 
-      pub charge-same : columnAmount type numbers charge ≡ chargeIn line
+      pub charge-same : saidBy (fieldNumber type numbers charge) ≡ chargeIn line
       unfolding chargeIn fieldCount fieldType
       charge-same = rw named (charge-column (fieldOf charge type) (column-kind type known isCharge charge (lit< tt) tt refl))
 
-      pub usage-same : columnAmount type numbers usage ≡ usageIn line
+      pub usage-same : saidBy (fieldNumber type numbers usage) ≡ usageIn line
       unfolding usageIn fieldCount fieldType
       usage-same = rw named (usage-column (fieldOf usage type) (column-kind type known isUsage usage (lit< tt) tt refl))

@@ -5,13 +5,11 @@ use mathlib.Core.List.{List}
 use mathlib.Core.Bool.{Bool, cond, _&&_, _||_}
 use lib.ListN.{getD}
 use lib.Dec.{eqb}
-use lib.IntN.{ℤ}
 use Rattle.lists.specs.InsideTabulate.{tabulate}
 use Rattle.lists.specs.Written.{written}
 use Rattle.format.specs.Format.{commodityFields, unitFields, cancelFields, exemptionFields}
 use Rattle.columns.specs.Columns.{fieldOf}
 use Rattle.readings.specs.InsideLeadingBytes.{packed}
-use Rattle.amounts.specs.InsideSigned.{signedOf}
 
 -- ---- test 7 by numbers: the number of the field that a list of fields gives a type is that of one of two texts; a type without the field passes
 unfoldable pub isEither : ℕ → List ℕ → List ℕ → List ℕ → Bool
@@ -37,7 +35,3 @@ columnNumber type numbers column =
 
 abbrev pub columnNumbers : ℕ → List ℕ → List ℕ
 columnNumbers type numbers = tabulate (columnNumber type numbers) 8 0
-
--- and the amount of one
-abbrev pub columnAmount : ℕ → List ℕ → ℕ → ℤ
-columnAmount type numbers column = signedOf (fieldNumber type numbers column)

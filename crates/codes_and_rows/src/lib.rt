@@ -8,7 +8,7 @@ ghost use Rattle.format.specs.Format.{commodityFields, unitFields, cancelFields
 ghost use Rattle.columns.specs.InsideColumns.{Room};
 ghost use Rattle.columns.specs.Columns.{charge, usage};
 ghost use Rattle.columns.specs.InsideRows.{columnFields, RowStored};
-ghost use Rattle.codes_and_rows.specs.InsideNumbers.{codesStand, unitIf, columnNumbers, columnAmount};
+ghost use Rattle.codes_and_rows.specs.InsideNumbers.{codesStand, unitIf, columnNumbers, fieldNumber};
 
 // The fields that have the codes of test 7, counted from 1: Commodity Code, Usage UOM, Cancel Indicator and GST Exemption Indicator.
 const FH_COMMODITY: usize = 6;
@@ -117,15 +117,15 @@ pub fn store_line(
     numbers: &[u64],
     record_type: u64,
     words: &mut [u64],
-    charges: &mut [i64],
-    usages: &mut [i64],
+    charges: &mut [u64],
+    usages: &mut [u64],
     i: usize,
 )
     requires { ⌜ (now fields ≡ columnFields) × (length (now numbers) ≡ 24) × (record_type < 9) ⌝ }
     requires { ⌜ Room (i + 1) (now words) (now charges) (now usages) × (length (now charges) ≤ 4096) ⌝ }
     ensures { λ _. ⌜ RowStored (length (now (charges .entry))) (now (words .entry)) i (columnNumbers record_type (now (numbers .entry))) 8 (now (words .exit)) ⌝ }
-    ensures { λ _. ⌜ now (charges .exit) ≡ set (now (charges .entry)) i (columnAmount record_type (now (numbers .entry)) charge) ⌝ }
-    ensures { λ _. ⌜ now (usages .exit) ≡ set (now (usages .entry)) i (columnAmount record_type (now (numbers .entry)) usage) ⌝ }
+    ensures { λ _. ⌜ now (charges .exit) ≡ set (now (charges .entry)) i (fieldNumber record_type (now (numbers .entry)) charge) ⌝ }
+    ensures { λ _. ⌜ now (usages .exit) ≡ set (now (usages .entry)) i (fieldNumber record_type (now (numbers .entry)) usage) ⌝ }
 {
     let room = charges.len();
     let row = record_type as usize;
@@ -139,7 +139,7 @@ pub fn store_line(
     let cancel = fields[row][7];
     words[7 * room + i] = if numbers[cancel] == YES { 1 } else { 0 };
     let charge = fields[row][8];
-    charges[i] = amounts::signed(numbers[charge]);
+    charges[i] = numbers[charge];
     let usage = fields[row][9];
-    usages[i] = amounts::signed(numbers[usage]);
+    usages[i] = numbers[usage];
 }

@@ -2,25 +2,27 @@
 --     number-kept                      what stands in a column, less one, is the field's number
 --     number-none                      and 0 says that the field has none
 --     number-small                     a number that is read has at most 15 digits
---     charge-bound, usage-bound        and so have the amounts of a line
---     charges-bound, usages-bound      and those of a column
+--     charge-bound, usage-bound        and so have the amounts of a line, as they count
 --     usages-length                                   a column has one for each line
 --     column-at, charge-at, usage-at                  which is that of the line at its place
 -- Assumes nothing.
-use mathlib.Core.Path.{_≡_, refl, _∙_, ap}
+use mathlib.Core.Path.{_≡_, refl, sym, _∙_, ap}
 use mathlib.Core.List.{List, [], _∷_, map}
 use Prim.Native.Nat.{ℕ, zero, suc, _+_, _^_, _≤_, _<_}
 use native.Mathlib.Nat.{le-of-suc-le-suc}
 use native.Mathlib.Omega.{arith}
-use lib.Dec.{lit<, lit≤}
-use lib.IntN.{ℤ, pos, natAbs}
+use lib.Dec.{lit≤}
+use lib.IntN.{natAbs}
 use lib.ListN.{length, getD, take, length-map}
 use Rattle.digits.specs.declared.Number.{Number}
 use Rattle.digits.specs.declared.Number.the-variants.{Value, Other}
 use Rattle.digits.specs.Digits.{digitsOf}
 use Rattle.digits.proofs.Laws.{ten-room, digits-say, digits-bound}
-use Rattle.amounts.specs.Amounts.{amountOf, units}
-use Rattle.amounts.proofs.Laws.{units-bound}
+use Rattle.amounts.specs.declared.Amount.{Amount}
+use Rattle.amounts.specs.declared.Amount.the-variants.{Missing}
+use Rattle.amounts.specs.Amounts.{orZero}
+use Rattle.amounts.specs.InsideSaid.{saidBy, amountsSaid}
+use Rattle.amounts.proofs.Laws.{counted-bound}
 use Rattle.columns.specs.Columns.{numberInColumn, fieldIn, charge, usage, numberIn, chargeIn, usageIn}
 use Rattle.columns.specs.InsideColumns.{columnAt, ColumnsRead}
 
@@ -40,27 +42,13 @@ pub number-small : (s : List ℕ) (n : ℕ) → digitsOf s ≡ Value n → n < 1
 number-small s n e = ten-room (length s) (digits-bound s n e) (digits-say s n e .few)
 
 -- ---- amounts
-amount-bound : (p s : ℕ) (t : List ℕ) → p ≤ 15 → natAbs (units (amountOf p s t)) < 10 ^ 15
-amount-bound p s t few = ten-room p (units-bound p s t) few
-
-pub charge-bound : (line : List ℕ) → natAbs (chargeIn line) < 10 ^ 15
+pub charge-bound : (line : List ℕ) → natAbs (orZero (chargeIn line)) < 10 ^ 15
 unfolding chargeIn
-charge-bound line = amount-bound 11 2 (fieldIn charge line) (lit≤ tt)
+charge-bound line = ten-room 11 (counted-bound 11 2 (fieldIn charge line)) (lit≤ tt)
 
-pub usage-bound : (line : List ℕ) → natAbs (usageIn line) < 10 ^ 15
+pub usage-bound : (line : List ℕ) → natAbs (orZero (usageIn line)) < 10 ^ 15
 unfolding usageIn
-usage-bound line = amount-bound 14 4 (fieldIn usage line) (lit≤ tt)
-
-small-column : (f : List ℕ → ℤ) → ((line : List ℕ) → natAbs (f line) < 10 ^ 15) → (lines : List (List ℕ)) (i : ℕ) → natAbs (getD (map f lines) i (pos 0)) < 10 ^ 15
-small-column f small [] i = lit< tt
-small-column f small (line ∷ lines) zero = small line
-small-column f small (line ∷ lines) (suc i) = small-column f small lines i
-
-pub charges-bound : (lines : List (List ℕ)) (i : ℕ) → natAbs (getD (map chargeIn lines) i (pos 0)) < 10 ^ 15
-charges-bound = small-column chargeIn charge-bound
-
-pub usages-bound : (lines : List (List ℕ)) (i : ℕ) → natAbs (getD (map usageIn lines) i (pos 0)) < 10 ^ 15
-usages-bound = small-column usageIn usage-bound
+usage-bound line = ten-room 14 (counted-bound 14 4 (fieldIn usage line)) (lit≤ tt)
 
 -- ---- columns
 pub map-at : {A B : Type 0} (f : A → B) (d : A) (e : B) (xs : List A) (i : ℕ) → i < length xs → getD (map f xs) i e ≡ f (getD xs i d)
@@ -75,16 +63,21 @@ module _ {A : Type 0} (f : List ℕ → A) (lines : List (List ℕ)) (column : L
   in-line : (d : A) (i : ℕ) → i < length lines → getD column i d ≡ f (getD lines i [])
   in-line d i h = ap (λ (l : List A). getD l i d) same ∙ map-at f [] d lines i h
 
-module _ {lines : List (List ℕ)} {words : List ℕ} {chargeColumn usageColumn : List ℤ} (r : ColumnsRead lines words chargeColumn usageColumn) (n : ℕ) (e : n ≡ length lines) where
+module _ {lines : List (List ℕ)} {words chargeColumn usageColumn : List ℕ} (r : ColumnsRead lines words chargeColumn usageColumn) (n : ℕ) (e : n ≡ length lines) where
   pub usages-length : length (take n usageColumn) ≡ n
-  usages-length = rw e (as-long usageIn lines _ (r .usages))
+  usages-length = rw e (sym (length-map (take (length lines) usageColumn) saidBy) ∙ as-long usageIn lines _ (r .usages))
 
   module _ (i : ℕ) (h : i < n) where
     pub column-at : (column : ℕ) → column < 8 → getD (columnAt (length chargeColumn) column n words) i 0 ≡ numberIn column (getD lines i [])
     column-at column l = rw e (in-line (numberIn column) lines _ (r .numbers column l) 0 i (omega (arith, e)))
 
-    pub charge-at : getD (take n chargeColumn) i (pos 0) ≡ chargeIn (getD lines i [])
-    charge-at = rw e (in-line chargeIn lines _ (r .charges) (pos 0) i (omega (arith, e)))
+    amount-at : (f : List ℕ → Amount) (column : List ℕ) → amountsSaid (take (length lines) column) ≡ map f lines → saidBy (getD (take n column) i 0) ≡ f (getD lines i [])
+    amount-at f column same =
+        let long : length (take (length lines) column) ≡ length lines = sym (length-map (take (length lines) column) saidBy) ∙ as-long f lines _ same in
+        rw e (sym (map-at saidBy 0 Missing (take (length lines) column) i (omega (arith, e, long))) ∙ in-line f lines _ same Missing i (omega (arith, e)))
 
-    pub usage-at : getD (take n usageColumn) i (pos 0) ≡ usageIn (getD lines i [])
-    usage-at = rw e (in-line usageIn lines _ (r .usages) (pos 0) i (omega (arith, e)))
+    pub charge-at : saidBy (getD (take n chargeColumn) i 0) ≡ chargeIn (getD lines i [])
+    charge-at = amount-at chargeIn chargeColumn (r .charges)
+
+    pub usage-at : saidBy (getD (take n usageColumn) i 0) ≡ usageIn (getD lines i [])
+    usage-at = amount-at usageIn usageColumn (r .usages)

@@ -13,10 +13,12 @@ use native.Mathlib.Omega.{arith}
 use borrow.Author.Count.{below-more}
 use lib.ListN.{length, getD, take, drop, set, length-set, length-map, length-drop}
 use lib.Seq.{getD-set-same, getD-set-other, getD-take, getD-drop, length-take-le, ext-getD}
-use lib.IntN.{ℤ, pos}
 use Rattle.lists.proofs.AllBelow.{at-below}
-use Rattle.lists.proofs.Column.{Filled, filled-none, filled-more, filled-end, filled-take}
+use Rattle.lists.proofs.Column.{stored}
 use Rattle.lists.proofs.Table.{tabulate-at}
+use Rattle.amounts.specs.declared.Amount.{Amount}
+use Rattle.amounts.specs.declared.Amount.the-variants.{Missing}
+use Rattle.amounts.specs.InsideSaid.{saidBy, amountsSaid}
 use Rattle.columns.specs.Columns.{fieldOf, numberIn, chargeIn, usageIn}
 use Rattle.columns.specs.InsideColumns.{columnAt, ColumnsRead}
 use Rattle.columns.specs.InsideRows.{fieldRow, columnFields, RowStored}
@@ -102,47 +104,61 @@ rows-end {room} {lines} {i} {words} r all few column h =
         ∙ r .at column k h (omega (arith, all))
         ∙ sym (map-at (numberIn column) [] 0 lines k l)
 
--- the first i lines have f of them in a column of amounts, which kept `before`
-pub record Amounts (f : List ℕ → ℤ) (lines : List (List ℕ)) (before : List ℤ) (i : ℕ) (column : List ℤ) : Type 0 where
+-- a column of amounts, as long as `before`, says f of the first i lines
+pub record Amounts (f : List ℕ → Amount) (lines : List (List ℕ)) (before : List ℕ) (i : ℕ) (column : List ℕ) : Type 0 where
   pub size : length column ≡ length before
-  pub filled : Filled f lines before i column
+  pub at : (k : ℕ) → k < i → saidBy (getD column k 0) ≡ f (getD lines k [])
 
-pub amounts-none : (f : List ℕ → ℤ) (lines : List (List ℕ)) (before : List ℤ) → Amounts f lines before 0 before
-amounts-none f lines before = record { size = refl; filled = filled-none f lines before }
+pub amounts-none : (f : List ℕ → Amount) (lines : List (List ℕ)) (before : List ℕ) → Amounts f lines before 0 before
+amounts-none f lines before = record { size = refl; at = λ k l. absurd (omega arith) }
 
-pub amounts-more : {f : List ℕ → ℤ} {lines : List (List ℕ)} {before : List ℤ} {i : ℕ} {column : List ℤ} → Amounts f lines before i column
-    → i < length lines → i < length before → (x : ℤ) → x ≡ f (getD lines i []) → Amounts f lines before (i + 1) (set column i x)
-amounts-more {f} {lines} {before} {i} {column} r h room x e =
+pub amounts-more : {f : List ℕ → Amount} {lines : List (List ℕ)} {before : List ℕ} {i : ℕ} {column : List ℕ} → Amounts f lines before i column
+    → i < length before → (x : ℕ) → saidBy x ≡ f (getD lines i []) → Amounts f lines before (i + 1) (set column i x)
+amounts-more {f} {lines} {before} {i} {column} r room x e =
     record {
       size = length-set column i x ∙ r .size;
-      filled = subst (λ (y : ℤ). Filled f lines before (i + 1) (set column i y)) (sym e) (filled-more f lines before [] (pos 0) i column h room (r .filled));
+      at = stored 0 (λ (k v : ℕ). saidBy v ≡ f (getD lines k [])) column i x (omega (arith, room, r .size)) (r .at) e;
     }
 
-pub amounts-end : {f : List ℕ → ℤ} {lines : List (List ℕ)} {before : List ℤ} {i : ℕ} {column : List ℤ} → Amounts f lines before i column → i ≡ length lines → take (length lines) column ≡ map f lines
-amounts-end {f} {lines} {before} {i} {column} r all =
-    ap (λ (l : List ℤ). take (length lines) l) (filled-end f lines before i column all (r .filled)) ∙ filled-take f lines (drop (length lines) before)
+pub amounts-end : {f : List ℕ → Amount} {lines : List (List ℕ)} {before : List ℕ} {i : ℕ} {column : List ℕ} → Amounts f lines before i column → i ≡ length lines → i ≤ length before
+    → amountsSaid (take (length lines) column) ≡ map f lines
+amounts-end {f} {lines} {before} {i} {column} r all few =
+    ext-getD Missing (amountsSaid front) (map f lines) (length-map front saidBy ∙ long ∙ sym (length-map lines f)) (λ k l. amount k (omega (arith, l, length-map front saidBy, long)))
+  where
+    front : List ℕ
+    front = take (length lines) column
+
+    long : length front ≡ length lines
+    long = length-take-le (length lines) column (omega (arith, all, few, r .size))
+
+    amount : (k : ℕ) → k < length lines → getD (amountsSaid front) k Missing ≡ getD (map f lines) k Missing
+    amount k l =
+        map-at saidBy 0 Missing front k (omega (arith, l, long))
+        ∙ ap saidBy (getD-take (length lines) column k 0 l)
+        ∙ r .at k (omega (arith, all, l))
+        ∙ sym (map-at f [] Missing lines k l)
 
 -- ---- the columns: the first i lines are read, into columns of amounts that kept `charges₀` and `usages₀`
-pub record Reading (lines : List (List ℕ)) (charges₀ usages₀ : List ℤ) (i : ℕ) (words : List ℕ) (charges usages : List ℤ) : Type 0 where
+pub record Reading (lines : List (List ℕ)) (charges₀ usages₀ : List ℕ) (i : ℕ) (words charges usages : List ℕ) : Type 0 where
   pub numbers : Rows (length charges₀) lines i words
   pub charge : Amounts chargeIn lines charges₀ i charges
   pub usage : Amounts usageIn lines usages₀ i usages
 
-pub reading-none : (lines : List (List ℕ)) (words : List ℕ) (charges usages : List ℤ) → length words ≡ 8 * length charges → Reading lines charges usages 0 words charges usages
+pub reading-none : (lines : List (List ℕ)) (words charges usages : List ℕ) → length words ≡ 8 * length charges → Reading lines charges usages 0 words charges usages
 reading-none lines words charges usages size =
     record { numbers = rows-none (length charges) lines words size; charge = amounts-none chargeIn lines charges; usage = amounts-none usageIn lines usages }
 
 -- one line more, whose numbers and amounts are stored
-module _ {lines : List (List ℕ)} {charges₀ usages₀ : List ℤ} {i : ℕ} {words : List ℕ} {charges usages : List ℤ} (r : Reading lines charges₀ usages₀ i words charges usages) where
-  pub reading-more : {numbers after : List ℕ} {x y : ℤ} → i < length lines → i < length charges₀ → length usages₀ ≡ length charges₀ → RowStored (length charges) words i numbers 8 after
-      → ((column : ℕ) → column < 8 → getD numbers column 0 ≡ numberIn column (getD lines i [])) → x ≡ chargeIn (getD lines i []) → y ≡ usageIn (getD lines i [])
+module _ {lines : List (List ℕ)} {charges₀ usages₀ : List ℕ} {i : ℕ} {words charges usages : List ℕ} (r : Reading lines charges₀ usages₀ i words charges usages) where
+  pub reading-more : {numbers after : List ℕ} (x y : ℕ) → i < length charges₀ → length usages₀ ≡ length charges₀ → RowStored (length charges) words i numbers 8 after
+      → ((column : ℕ) → column < 8 → getD numbers column 0 ≡ numberIn column (getD lines i [])) → saidBy x ≡ chargeIn (getD lines i []) → saidBy y ≡ usageIn (getD lines i [])
       → Reading lines charges₀ usages₀ (i + 1) after (set charges i x) (set usages i y)
-  reading-more {numbers} {after} {x} {y} h small space stored line p q =
+  reading-more {numbers} {after} x y small space stored line p q =
       record {
         numbers = rows-more (r .numbers) small (subst (λ (room : ℕ). RowStored room words i numbers 8 after) (r .charge .size) stored) line;
-        charge = amounts-more (r .charge) h small x p;
-        usage = amounts-more (r .usage) h (omega (arith, small, space)) y q;
+        charge = amounts-more (r .charge) small x p;
+        usage = amounts-more (r .usage) (omega (arith, small, space)) y q;
       }
 
-  pub reading-end : i ≡ length lines → i ≤ length charges₀ → ColumnsRead lines words charges usages
-  reading-end all few = record { numbers = λ column h. ap (λ (room : ℕ). columnAt room column (length lines) words) (r .charge .size) ∙ rows-end (r .numbers) all few column h; charges = amounts-end (r .charge) all; usages = amounts-end (r .usage) all }
+  pub reading-end : i ≡ length lines → i ≤ length charges₀ → length usages₀ ≡ length charges₀ → ColumnsRead lines words charges usages
+  reading-end all few space = record { numbers = λ column h. ap (λ (room : ℕ). columnAt room column (length lines) words) (r .charge .size) ∙ rows-end (r .numbers) all few column h; charges = amounts-end (r .charge) all few; usages = amounts-end (r .usage) all (omega (arith, few, space)) }

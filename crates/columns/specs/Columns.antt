@@ -5,7 +5,6 @@ use mathlib.Core.List.{List, [], _∷_}
 use mathlib.Core.Bool.{cond, _&&_}
 use lib.ListN.{getD}
 use lib.Dec.{eqb, ltb}
-use lib.IntN.{ℤ}
 use Rattle.lists.specs.Bytes.{sameBytes}
 use Rattle.lists.specs.Written.{written}
 use Rattle.digits.specs.declared.Number.{Number}
@@ -14,7 +13,8 @@ use Rattle.digits.specs.Digits.{digitsOf}
 use Rattle.calendar.specs.declared.Day.{Day}
 use Rattle.calendar.specs.declared.Day.the-variants.{At, NotADate}
 use Rattle.calendar.specs.Calendar.{dayOf}
-use Rattle.amounts.specs.Amounts.{amountOf, units}
+use Rattle.amounts.specs.declared.Amount.{Amount}
+use Rattle.amounts.specs.Amounts.{amountOf}
 use Rattle.records.specs.Records.{field, typeIn}
 
 -- ---- which field of which type a column reads: for FH, SH, TH, DU, DD, DM, CH, OC, FT the field, counted from 1, or 0 for none
@@ -93,11 +93,10 @@ inColumn column s = cond (ltb column 5) (numberInColumn (digitsOf s)) (cond (ltb
 unfoldable pub numberIn : ℕ → List ℕ → ℕ
 numberIn column line = cond (eqb column 0) (typeIn line) (inColumn column (fieldIn column line))
 
--- ---- amounts, in units of their last place
--- document 01: "An empty amount that isn't mandatory counts as zero"
-unfoldable pub chargeIn : List ℕ → ℤ
-chargeIn line = units (amountOf 11 2 (fieldIn charge line))
+-- ---- amounts: what the field of a column says
+unfoldable pub chargeIn : List ℕ → Amount
+chargeIn line = amountOf 11 2 (fieldIn charge line)
 
 -- of Number(13,4) and Number(14,4), which have the same places
-unfoldable pub usageIn : List ℕ → ℤ
-usageIn line = units (amountOf 14 4 (fieldIn usage line))
+unfoldable pub usageIn : List ℕ → Amount
+usageIn line = amountOf 14 4 (fieldIn usage line)

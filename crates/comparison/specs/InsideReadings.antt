@@ -5,9 +5,6 @@ use Prim.Native.Nat.{ℕ}
 use mathlib.Core.List.{List}
 use mathlib.Core.Bool.{Bool, cond}
 use lib.Dec.{eqb}
-use lib.IntN.{ℤ}
-use Rattle.amounts.specs.declared.Amount.{Amount}
-use Rattle.amounts.specs.declared.Amount.the-variants.{Value as Units, Misses}
 use Rattle.digits.specs.Digits.{digitsOf, fixedDigitsOf}
 use Rattle.digits.specs.declared.Number.{Number}
 use Rattle.digits.specs.declared.Number.the-variants.{Value, Other}
@@ -18,15 +15,6 @@ use Rattle.calendar.specs.declared.DateTime.the-variants.{Second, NotADateTime}
 -- 1 for what holds, and 0
 abbrev pub flag : Bool → ℕ
 flag b = cond b 1 0
-
--- ---- an amount
-abbrev pub amountNumber : Amount → ℕ
-amountNumber (Units x) = 0
-amountNumber Misses = 3
-
-abbrev pub unitsAfter : ℤ → Amount → ℤ
-unitsAfter before (Units x) = x
-unitsAfter before Misses = before
 
 -- ---- digits: just n of them, or 1 to 15 where n is 0
 abbrev pub digitsFor : ℕ → List ℕ → Number

@@ -1,28 +1,11 @@
 // What the comparison tests call besides the host's functions: the readings of single fields. A reading answers 0, or 3 where the
 // bytes miss their type; then what stands behind its references is left as it was.
 ghost use mathlib.Core.Path.{_≡_};
-ghost use Rattle.amounts.specs.Amounts.{amountOf};
 ghost use Rattle.calendar.specs.Calendar.{dateTimeOf};
-ghost use Rattle.comparison.specs.InsideReadings.{flag, amountNumber, unitsAfter, digitsFor, digitsNumber, valueAfter, dateTimeNumber, dayAfter, secondAfter, sharesDayOf};
-use amounts::Amount;
+ghost use Rattle.comparison.specs.InsideReadings.{flag, digitsFor, digitsNumber, valueAfter, dateTimeNumber, dayAfter, secondAfter, sharesDayOf};
 use calendar::DateTime;
 use calendar::Period;
 use digits::Number;
-
-// The units of an amount of Number(precision, scale).
-#[no_mangle]
-pub extern "C" fn comparison_amount(s: &[u8], precision: u64, scale: u64, units: &mut i64) -> u64
-    ensures number { λ r. ⌜ r ≡ amountNumber (amountOf precision scale (now (s .entry))) ⌝ }
-    ensures stored { λ r. ⌜ now (units .exit) ≡ unitsAfter (now (units .entry)) (amountOf precision scale (now (s .entry))) ⌝ }
-{
-    match amounts::amount_of(s, precision as usize, scale as usize) {
-        Amount::Value(x) => {
-            *units = x;
-            0
-        }
-        Amount::Misses => 3,
-    }
-}
 
 fn one_if(b: bool) -> u64
     ensures { λ r. ⌜ r ≡ flag b ⌝ }

@@ -8,6 +8,7 @@ ghost use Rattle.entries.specs.InsideWords.{RoomFor};
 ghost use Rattle.booking.specs.Booking.{resultOf};
 use amounts::Amount;
 use amounts::Charge;
+use amounts::Usage;
 use booking::Answer;
 use calendar::Day;
 use digits::Number;
@@ -208,9 +209,10 @@ fn print_id(s: &[u8]) {
     }
 }
 
-fn print_amount(s: &[u8]) {
-    print(b"  amount ");
-    match amounts::amount_of(s, 11, 2) {
+fn print_amount(label: &[u8], amount: Amount) {
+    print(label);
+    match amount {
+        Amount::Missing => print(b"missing"),
         Amount::Value(units) => print_units(units),
         Amount::Misses => print(b"misses"),
     }
@@ -229,7 +231,8 @@ fn print_day(s: &[u8]) {
 fn show(label: &[u8], s: &[u8]) {
     print(label);
     print_id(s);
-    print_amount(s);
+    print_amount(b"  charge ", Charge::of(s));
+    print_amount(b"  usage ", Usage::of(s, 14));
     print_day(s);
     print(b"\n");
 }
@@ -249,6 +252,8 @@ fn show_signs() {
     show(b"12.5", b"12.5");
     show(b"-12.5", b"-12.5");
     show(b"-0", b"-0");
+    show(b"0", b"0");
+    show(b"a space", b" ");
 }
 
 fn show_widths() {

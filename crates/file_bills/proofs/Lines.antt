@@ -20,9 +20,10 @@ use Rattle.calendar.specs.declared.Day.{Day}
 use Rattle.calendar.specs.declared.Day.the-variants.{At, NotADate}
 use Rattle.calendar.specs.Calendar.{dayOf}
 use Rattle.records.specs.Records.{field, typeIn}
+use Rattle.amounts.specs.Amounts.{orZero}
 use Rattle.columns.specs.Columns.{fieldOf, fieldIn, numberInColumn, dayInColumn, inColumn, numberIn, chargeIn, usageIn, reference, site, startDay, endDay, cancel}
 use Rattle.bill_files.specs.Accepted.{numberOrZero, numberOrNone, dayOrZero, senderIn, commodityIn, idIn, isPeriod, isBill, billIn}
-use Rattle.booking.specs.Booking.{orZero}
+use Rattle.booking.specs.Booking.{idOrZero}
 use Rattle.file_bills.specs.InsideBills.{sourceEntry, referenceInColumn}
 use Rattle.file_bills.specs.InsideReading.{entryFrom}
 
@@ -38,7 +39,7 @@ day-less : (x : Day) → dayInColumn x - 1 ≡ dayOrZero x
 day-less (At n) = less n
 day-less NotADate = refl
 
-reference-less : (x : Number) → numberInColumn x - 1 ≡ orZero (numberOrNone x)
+reference-less : (x : Number) → numberInColumn x - 1 ≡ idOrZero (numberOrNone x)
 reference-less (Value n) = less n
 reference-less Other = refl
 
@@ -88,7 +89,7 @@ cancel-at : (line : List ℕ) → eqb (numberIn 7 line) 1 ≡ sameBytes (fieldIn
 unfolding numberIn inColumn
 cancel-at line = cancel-flag (sameBytes (fieldIn cancel line) (written "Y"))
 
-reference-at : (line : List ℕ) → numberIn 4 line - 1 ≡ orZero (numberOrNone (digitsOf (fieldIn reference line)))
+reference-at : (line : List ℕ) → numberIn 4 line - 1 ≡ idOrZero (numberOrNone (digitsOf (fieldIn reference line)))
 unfolding numberIn inColumn
 reference-at line = reference-less (digitsOf (fieldIn reference line))
 
@@ -100,7 +101,7 @@ pub bill-type : (line : List ℕ) → (eqb (numberIn 0 line) 2 || eqb (numberIn 
 bill-type line = ap (λ (n : ℕ). eqb n 2 || eqb n 7) (type-at line)
 
 pub bill-entry : (header line : List ℕ) (sender commodity : ℕ) → sender ≡ senderIn header → commodity ≡ commodityIn header → isBill line ≡ true
-    → entryFrom sender commodity (eqb (numberIn 0 line) 2) (eqb (numberIn 7 line) 1) (numberIn 1 line) (numberIn 3 line) (numberIn 5 line) (numberIn 6 line) (numberIn 4 line) (chargeIn line) (usageIn line)
+    → entryFrom sender commodity (eqb (numberIn 0 line) 2) (eqb (numberIn 7 line) 1) (numberIn 1 line) (numberIn 3 line) (numberIn 5 line) (numberIn 6 line) (numberIn 4 line) (orZero (chargeIn line)) (orZero (usageIn line))
     ≡ sourceEntry (billIn header line)
 unfolding entryFrom billIn
 bill-entry header line sender commodity s c e =
@@ -113,11 +114,11 @@ bill-entry header line sender commodity s c e =
       site = site-at line t;
       start = cond (period t) (start-at line t) 0;
       end = cond (period t) (end-at line t) 0;
-      charge = chargeIn line;
-      usage = cond (period t) (usageIn line) (pos 0);
+      charge = orZero (chargeIn line);
+      usage = cond (period t) (orZero (usageIn line)) (pos 0);
       state = cond (cancel-at line t) 4 1;
       cancels = (ap (λ (b : Bool). cond b (numberIn 4 line - 1) 0) (cancel-at line) ∙ ap (λ (x : ℕ). cond (sameBytes (fieldIn cancel line) (written "Y")) x 0) (reference-at line)
-          ∙ cancel-state (sameBytes (fieldIn cancel line) (written "Y")) (orZero (numberOrNone (digitsOf (fieldIn reference line))))) t;
+          ∙ cancel-state (sameBytes (fieldIn cancel line) (written "Y")) (idOrZero (numberOrNone (digitsOf (fieldIn reference line))))) t;
     })
   where
     period : eqb (numberIn 0 line) 2 ≡ isPeriod line

@@ -113,8 +113,8 @@ fn bill_entry(
     ends: &[usize],
     n: usize,
     words: &[u64],
-    charges: &[i64],
-    usages: &[i64],
+    charges: &[u64],
+    usages: &[u64],
     i: usize,
     sender: u64,
     commodity: u64,
@@ -134,8 +134,8 @@ fn bill_entry(
         number_at(words, room, START_DAY, n, i),
         number_at(words, room, END_DAY, n, i),
         number_at(words, room, REFERENCE, n, i),
-        charges[i],
-        usages[i],
+        amounts::said(charges[i]).or_zero(),
+        amounts::said(usages[i]).or_zero(),
     )
 }
 
@@ -146,8 +146,8 @@ fn read_bill(
     ends: &[usize],
     n: usize,
     words: &[u64],
-    charges: &[i64],
-    usages: &[i64],
+    charges: &[u64],
+    usages: &[u64],
     i: usize,
     sender: u64,
     commodity: u64,
@@ -191,8 +191,8 @@ pub fn read_bills(
     ends: &[usize],
     n: usize,
     words: &[u64],
-    charges: &[i64],
-    usages: &[i64],
+    charges: &[u64],
+    usages: &[u64],
     sender: u64,
     commodity: u64,
     bill_words: &mut [u64],
@@ -268,8 +268,8 @@ pub fn read_header(
     ends: &[usize],
     n: usize,
     words: &[u64],
-    charges: &[i64],
-    usages: &[i64],
+    charges: &[u64],
+    usages: &[u64],
 ) -> Entry
     requires { ⌜ Read (now file) n (now starts) (now ends) (now words) (now charges) (now usages) ⌝ }
     ensures { λ r. ⌜ r ≡ fileEntry (billFile (linesOf (now (file .entry)))) ⌝ }
@@ -284,7 +284,7 @@ pub fn read_header(
         entries::NATURAL_GAS,
     );
     let last = n - 1;
-    let charge = charges[last];
+    let charge = amounts::said(charges[last]).or_zero();
     Entry {
         sender,
         commodity,

@@ -17,7 +17,7 @@ use Rattle.lists.proofs.Bytes.{same-is, is-same}
 use Rattle.digits.specs.declared.Number.{Number}
 use Rattle.digits.specs.declared.Number.the-variants.{Value, Other}
 use Rattle.digits.specs.Digits.{fixedDigitsOf}
-use Rattle.amounts.specs.Amounts.{amountOf, units}
+use Rattle.amounts.specs.Amounts.{amountOf, orZero}
 use Rattle.totals.proofs.Laws.{same-is as amounts-equal, is-same as equal-amounts}
 use Rattle.records.specs.Records.{field}
 use Rattle.headers.specs.Headers.{isValue, isOurs, isListed, countsRecords}
@@ -52,7 +52,7 @@ module _ (distributors header : List ℕ) where
 
 -- ---- test 33
 module _ (trailer : List ℕ) (n : ℕ) where
-  pub counts-is : (countsRecords trailer n ≡ true → units (amountOf 9 0 (field 4 trailer)) ≡ pos n)
-      × (units (amountOf 9 0 (field 4 trailer)) ≡ pos n → countsRecords trailer n ≡ true)
+  pub counts-is : (countsRecords trailer n ≡ true → orZero (amountOf 9 0 (field 4 trailer)) ≡ pos n)
+      × (orZero (amountOf 9 0 (field 4 trailer)) ≡ pos n → countsRecords trailer n ≡ true)
   unfolding countsRecords
-  counts-is = let count = units (amountOf 9 0 (field 4 trailer)) in (amounts-equal count (pos n), equal-amounts count (pos n))
+  counts-is = let count = orZero (amountOf 9 0 (field 4 trailer)) in (amounts-equal count (pos n), equal-amounts count (pos n))

@@ -11,7 +11,7 @@ use Rattle.lists.specs.Bytes.{sameBytes}
 use Rattle.digits.specs.declared.Number.{Number}
 use Rattle.digits.specs.declared.Number.the-variants.{Value, Other}
 use Rattle.digits.specs.Digits.{fixedDigitsOf}
-use Rattle.amounts.specs.Amounts.{amountOf, units}
+use Rattle.amounts.specs.Amounts.{amountOf, orZero}
 use Rattle.totals.specs.Totals.{sameℤ}
 use Rattle.records.specs.Records.{field}
 
@@ -32,4 +32,4 @@ isListed distributors header = someBelow (λ (g : ℕ). sameBytes (group distrib
 
 -- ---- 33: "FT's record count (as Table 4-10 counts)": "the number of records (including Tariff File Header and File Trailer records)"
 unfoldable pub countsRecords : List ℕ → ℕ → Bool
-countsRecords trailer n = sameℤ (units (amountOf 9 0 (field 4 trailer))) (pos n)
+countsRecords trailer n = sameℤ (orZero (amountOf 9 0 (field 4 trailer))) (pos n)

@@ -6,7 +6,8 @@ ghost use lib.Dec.{eqb};
 ghost use lib.ListN.{length};
 ghost use lib.IntN.{pos};
 ghost use Rattle.lists.specs.Below.{someBelow};
-ghost use Rattle.amounts.specs.InsideSigned.{signedOf};
+ghost use Rattle.amounts.specs.Amounts.{orZero};
+ghost use Rattle.amounts.specs.InsideSaid.{saidBy};
 ghost use Rattle.totals.specs.Totals.{sameℤ};
 ghost use Rattle.headers.specs.Headers.{isValue};
 ghost use Rattle.headers.specs.InsideSteps.{isSender};
@@ -61,7 +62,7 @@ pub fn is_listed(said: u64, distributors: &[u8]) -> bool
 // Test 33: whether the record count that the trailer says, as a reader has an amount, is n.
 pub fn counts_records(said: u64, n: usize) -> bool
     requires { ⌜ n ≤ 4096 ⌝ }
-    ensures { λ r. ⌜ r ≡ sameℤ (signedOf said) (pos n) ⌝ }
+    ensures { λ r. ⌜ r ≡ sameℤ (orZero (saidBy said)) (pos n) ⌝ }
 {
-    amounts::signed(said) == n as i64
+    amounts::said(said).or_zero() == n as i64
 }

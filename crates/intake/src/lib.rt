@@ -1,6 +1,8 @@
 // What the host program calls, as host/intake.h declares it. The answer of Check, of a date and of a code is the refusal's number times 2 ^ 32, and in the
-// lower 32 bits the line or the value asked for; that of Book, Totals and Find is a struct of document 01's number and values.
+// lower 32 bits the line or the value asked for; that of Book, Totals, Find and of an amount is a struct of document 01's number and values.
 ghost use mathlib.Core.Path.{_≡_};
+ghost use Rattle.amounts.specs.Amounts.{amountOf};
+ghost use Rattle.amounts.specs.Replies.{amountReply};
 ghost use Rattle.calendar.specs.Calendar.{dayOf};
 ghost use Rattle.refusals.specs.Codes.{codeOf};
 ghost use Rattle.refusals.specs.Check.{checkOf};
@@ -9,6 +11,7 @@ ghost use Rattle.ledger.specs.Ledger.{totalsResult, findResult};
 ghost use Rattle.booking.specs.Booking.{inputOf};
 ghost use Rattle.ledger.specs.Replies.{totalsReply, findReply};
 ghost use Rattle.lent_ledger.specs.BookReplies.{HostBooked};
+use amounts::AmountReply;
 use entries::Entry;
 use ledger::FindReply;
 use ledger::TotalsReply;
@@ -29,6 +32,14 @@ pub extern "C" fn intake_day(date: &[u8]) -> u64
     ensures { λ r. ⌜ r ≡ packed (dayAnswer (dayOf (now (date .entry)))) ⌝ }
 {
     refusals::day_word(date)
+}
+
+// What a field of Number(precision, scale) says: that it is empty, its units, or that it misses its type.
+#[no_mangle]
+pub extern "C" fn intake_amount(field: &[u8], precision: u64, scale: u64) -> AmountReply
+    ensures { λ r. ⌜ r ≡ amountReply (amountOf precision scale (now (field .entry))) ⌝ }
+{
+    amounts::amount_reply_for(amounts::amount_of(field, precision as usize, scale as usize))
 }
 
 // The rejection code of a test; 107 if it isn't one of Table 5-1 that document 01 lists.

@@ -11,7 +11,6 @@ use native.Mathlib.Omega.{arith}
 use borrow.Author.Count.{below-more}
 use borrow.Author.Tests.{eqb-true, eqb-false}
 use lib.Dec.{eqb}
-use lib.IntN.{ℤ}
 use lib.ListN.{length, getD, set}
 use Rattle.lists.specs.Below.{firstBelow}
 use Rattle.lists.specs.Bytes.{sameBytes}
@@ -24,7 +23,7 @@ use Rattle.columns.specs.InsideRows.{RowStored}
 use Rattle.columns.proofs.Rows.{Reading, reading-more}
 use Rattle.format.specs.Format.{lineAt, someField, unfilled, unitOf, miscoded, firstMiscoded}
 use Rattle.codes_and_rows.specs.InsideFields.{FieldFits}
-use Rattle.codes_and_rows.specs.InsideNumbers.{codesStand, unitIf, columnNumbers, columnAmount}
+use Rattle.codes_and_rows.specs.InsideNumbers.{codesStand, unitIf, columnNumbers, fieldNumber}
 use Rattle.codes_and_rows.proofs.Codes.{stands-at, codes-exact}
 use Rattle.codes_and_rows.proofs.Rows.{numbers-same, charge-same, usage-same}
 use Rattle.line_reader.specs.declared.LinesRead.{LinesRead}
@@ -122,10 +121,10 @@ module _ (lines : List (List ℕ)) (n : ℕ) where
       (first-here unread lines (read .stopped) (s .passing) (omega (arith, all)) e, (λ end. absurd (omega (arith, end, all, h)), λ end. absurd (omega (arith, end, all, h))))
 
 -- ---- the columns: one line more, which is stored
-pub line-stored : {lines : List (List ℕ)} {charges₀ usages₀ : List ℤ} {i : ℕ} {words : List ℕ} {charges usages : List ℤ} {type : ℕ} {filled : Bool} {numbers after : List ℕ} {charges′ usages′ : List ℤ}
-    → Reading lines charges₀ usages₀ i words charges usages → i < length lines → i < length charges₀ → length usages₀ ≡ length charges₀ → LineRead (lineAt lines i) type filled numbers
-    → RowStored (length charges) words i (columnNumbers type numbers) 8 after → charges′ ≡ set charges i (columnAmount type numbers charge) → usages′ ≡ set usages i (columnAmount type numbers usage)
+pub line-stored : {lines : List (List ℕ)} {charges₀ usages₀ : List ℕ} {i : ℕ} {words charges usages : List ℕ} {type : ℕ} {filled : Bool} {numbers after charges′ usages′ : List ℕ}
+    → Reading lines charges₀ usages₀ i words charges usages → i < length charges₀ → length usages₀ ≡ length charges₀ → LineRead (lineAt lines i) type filled numbers
+    → RowStored (length charges) words i (columnNumbers type numbers) 8 after → charges′ ≡ set charges i (fieldNumber type numbers charge) → usages′ ≡ set usages i (fieldNumber type numbers usage)
     → Reading lines charges₀ usages₀ (i + 1) after charges′ usages′
-line-stored r h small space line stored p q =
-    rw (p, q) (reading-more r h small space stored (numbers-same (line .numbers) (line .known) (line .printable) (line .named))
+line-stored r small space line stored p q =
+    rw (p, q) (reading-more r _ _ small space stored (numbers-same (line .numbers) (line .known) (line .printable) (line .named))
     (charge-same (line .numbers) (line .known) (line .printable) (line .named)) (usage-same (line .numbers) (line .known) (line .printable) (line .named)))

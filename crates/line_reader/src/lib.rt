@@ -204,8 +204,8 @@ fn read_lines_lent(
     ends: &[usize],
     n: usize,
     words: &mut [u64],
-    charges: &mut [i64],
-    usages: &mut [i64],
+    charges: &mut [u64],
+    usages: &mut [u64],
 ) -> LinesRead
     requires { ⌜ Placed (now file) n (now starts) (now ends) (linesOf (now file)) × (1 ≤ n) ⌝ }
     requires { ⌜ Room n (now words) (now charges) (now usages) × (length (now charges) ≤ 4096) ⌝ }
@@ -275,8 +275,8 @@ pub fn read_lines(
     ends: &[usize],
     n: usize,
     words: &mut [u64],
-    charges: &mut [i64],
-    usages: &mut [i64],
+    charges: &mut [u64],
+    usages: &mut [u64],
 ) -> LinesRead
     requires { ⌜ Placed (now file) n (now starts) (now ends) (linesOf (now file)) × (1 ≤ n) ⌝ }
     requires { ⌜ Room n (now words) (now charges) (now usages) × (length (now charges) ≤ 4096) ⌝ }

@@ -45,7 +45,7 @@ mag-le : (z : ℤ) → mag z ≤ natAbs z
 mag-le (pos n) = le-refl n
 mag-le (negsuc n) = omega arith
 
-sub-size : (a b : ℕ) → natAbs (subℕ a b) ≤ a + b
+pub sub-size : (a b : ℕ) → natAbs (subℕ a b) ≤ a + b
 sub-size a b = go (ltb a b) refl
   where
     go : (t : Bool) → ltb a b ≡ t → natAbs (cond t (negsuc (b - suc a)) (pos (a - b))) ≤ a + b

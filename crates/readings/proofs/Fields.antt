@@ -11,6 +11,7 @@ use lib.ListN.{length, take}
 use Rattle.digits.specs.Digits.{digitsOf}
 use Rattle.calendar.specs.Calendar.{dayOf}
 use Rattle.amounts.specs.Amounts.{amountOf}
+use Rattle.amounts.proofs.Sayings.{said-missing}
 use Rattle.fields.specs.declared.FieldType.{FieldType}
 use Rattle.fields.specs.declared.FieldType.the-variants.{RecordId, Digits, Number, Date, DateTime, Char, Varchar}
 use Rattle.fields.specs.Fields.{fitsFilled, fitsType}
@@ -18,7 +19,6 @@ use Rattle.readings.specs.declared.Reading.{Reading}
 use Rattle.readings.specs.InsideLeadingBytes.{fieldEnd, Ends}
 use Rattle.readings.proofs.Ends.{ends-there}
 use Rattle.readings.proofs.LeadingTexts.{packed-none}
-use Rattle.readings.proofs.Magnitudes.{sign-kept}
 use Rattle.readings.specs.InsideReadings.{Says, FieldRead}
 
 -- ---- what fits
@@ -38,7 +38,7 @@ pub empty-says : (t : FieldType) → Says t [] 0
 unfolding Says digitsOf dayOf amountOf
 empty-says RecordId = refl
 empty-says (Digits width) = refl
-empty-says (Number precision scale) = λ h. sign-kept false 0
+empty-says (Number precision scale) = said-missing 0 refl
 empty-says Date = refl
 empty-says DateTime = tt
 empty-says (Char width) = λ h. sym packed-none

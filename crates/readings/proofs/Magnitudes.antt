@@ -1,12 +1,11 @@
 -- Laws of amounts that stand at the start of a line's bytes.
 --     whole-below, whole-read    the digits before the point: their number is below a power of ten; they are the whole field
 --     places-below, places-read  the point after them and the digits after it: their number is below a power of ten; what was read
---     sign-kept                  an amount as one number
 -- Assumes nothing.
 use mathlib.Core.Path.{_≡_, refl, sym, _∙_, ap, subst}
 use mathlib.Core.List.{List, [], _∷_}
-use mathlib.Core.Bool.{Bool, true, false, cond, _&&_}
-use Prim.Native.Nat.{ℕ, zero, suc, _+_, _-_, _*_, _/_, _%_, _^_, _≤_, _<_}
+use mathlib.Core.Bool.{true, false, _&&_}
+use Prim.Native.Nat.{ℕ, zero, suc, _+_, _-_, _*_, _^_, _≤_, _<_}
 use native.Mathlib.Nat.{lt-of-lt-of-le, zero-mul}
 use native.Mathlib.Omega.{arith}
 use borrow.Author.Tests.{le-leb, leb-true, eq-eqb, ne-eqb}
@@ -16,7 +15,7 @@ use lib.Seq.{length-take-le, take-all, take-take, take-add, getD-take, drop-at}
 use Rattle.lists.specs.First.{firstWhere}
 use Rattle.digits.specs.Digits.{isDigit, allDigits, followedBy, numberOf}
 use Rattle.digits.proofs.Laws.{both-true}
-use Rattle.amounts.specs.Amounts.{pointOf, isUnsigned, unitsOf, signed}
+use Rattle.amounts.specs.Amounts.{pointOf, isUnsigned, unitsOf}
 use Rattle.amounts.proofs.Powers.{ten-mono}
 use Rattle.amounts.proofs.Shape.{whole-only, whole-and-places}
 use Rattle.readings.specs.declared.Run.{Run}
@@ -24,7 +23,6 @@ use Rattle.readings.specs.declared.Reading.{Reading}
 use Rattle.readings.specs.InsideLeadingBytes.{fieldEnd, Ends, DigitsRead}
 use Rattle.readings.proofs.Ends.{ends-there, end-more, end-after, digits-before}
 use Rattle.readings.proofs.Runs.{run-bound}
-use Rattle.amounts.specs.InsideSigned.{signedOf}
 use Rattle.readings.specs.InsideAmountReadings.{WholeRead, MagnitudeRead}
 
 -- ---- where the point stands
@@ -144,13 +142,3 @@ module _ (s : List ℕ) (w p whole : ℕ) (a : WholeRead s w p whole) where
           says = λ h. n h ∙ sym (field-units scale) ∙ ap (λ (j : ℕ). unitsOf scale (take j s)) k;
           small = small;
         }
-
--- ---- an amount as one number, with a minus and without
-pub sign-kept : (minus : Bool) (m : ℕ) → signedOf (m * 2 + cond minus 1 0) ≡ signed minus m
-unfolding signedOf
-sign-kept true m =
-    let half : (m * 2 + 1) / 2 ≡ m = omega arith in
-    rw (eq-eqb ((m * 2 + 1) % 2) 1 (omega arith), half)
-sign-kept false m =
-    let half : (m * 2 + 0) / 2 ≡ m = omega arith in
-    rw (ne-eqb ((m * 2 + 0) % 2) 1 (λ e. omega arith), half)

@@ -5,13 +5,15 @@
 -- Assumes nothing.
 use mathlib.Core.Path.{_≡_, refl, sym, _∙_, ap}
 use mathlib.Core.List.{List, [], _∷_}
-use mathlib.Core.Bool.{Bool, true, false, cond}
-use Prim.Native.Nat.{ℕ, suc, _+_, _-_, _*_, _≤_, _<_}
+use mathlib.Core.Bool.{Bool, true, false, cond, _&&_}
+use Prim.Native.Nat.{ℕ, suc, _+_, _-_, _≤_, _<_}
 use native.Mathlib.Omega.{arith}
-use borrow.Author.Tests.{le-leb}
-use lib.Dec.{eqb}
+use borrow.Author.Tests.{leb-true}
+use lib.Dec.{eqb, leb}
 use lib.ListN.{length, getD, drop}
-use Rattle.amounts.specs.Amounts.{isUnsigned, isNumber, hasMinus, unsigned}
+use Rattle.amounts.specs.declared.Amount.the-variants.{Value as Units, Misses}
+use Rattle.amounts.specs.Amounts.{isUnsigned, isNumber, hasMinus, unsigned, unitsOf, signed}
+use Rattle.amounts.specs.InsideSaid.{saidBy}
 use Rattle.amounts.proofs.Signs.{number-narrow as no-room, amount-filled}
 use Rattle.fields.specs.declared.FieldType.the-variants.{Number}
 use Rattle.fields.specs.Fields.{fitsType}
@@ -20,7 +22,6 @@ use Rattle.readings.specs.InsideLeadingBytes.{fieldEnd, leadingField}
 use Rattle.readings.specs.InsideAmountReadings.{MagnitudeRead}
 use Rattle.readings.specs.InsideReadings.{Says, FieldRead}
 use Rattle.readings.proofs.Ends.{end-first}
-use Rattle.readings.proofs.Magnitudes.{sign-kept}
 use Rattle.readings.proofs.Fields.{fits-filled}
 use Rattle.readings.proofs.Missed.{filled-not}
 
@@ -57,13 +58,21 @@ module _ (precision scale : ℕ) (s : List ℕ) (other : getD s 0 44 ≡ 44 → 
     pub number-missed : isUnsigned (precision - scale) scale (leadingField (drop k s)) ≡ false → fitsType (Number precision scale) (leadingField s) ≡ false
     number-missed none = filled-not (Number precision scale) (leadingField s) (field .some) (shape ∙ none)
 
-    pub number-read : (size r : Reading) → scale < precision → MagnitudeRead (precision - scale) scale (drop k s) size → r .len ≡ size .len + k
-        → r .number ≡ size .number * 2 + k → FieldRead (Number precision scale) s r
+    -- the magnitude stands behind the minus
+    pub number-read : (size r : Reading) → MagnitudeRead (precision - scale) scale (drop k s) size → r .len ≡ size .len + k → scale < precision
+        → saidBy (r .number) ≡ cond (leb precision 15) (Units (signed (eqb (getD s 0 44) 45) (size .number))) Misses → FieldRead (Number precision scale) s r
     unfolding Says
-    number-read size r room a l n =
+    number-read size r a l room says =
         record {
           ends = l ∙ ap (λ (j : ℕ). j + k) (a .ends) ∙ sym (field .ends);
           fits = fits-filled (Number precision scale) (leadingField s) (shape ∙ a .fits);
-          says = λ few.
-              rw (n, minus, sign-kept, a .says (omega arith), amount-filled precision scale (leadingField s) (field .some), field .sign, field .rest, a .fits, le-leb precision 15 few);
+          says = says ∙ sym (amount-filled precision scale (leadingField s) (field .some) ∙ rw (field .sign, field .rest, a .fits) (go (leb precision 15) refl));
         }
+      where
+        negative : Bool
+        negative = eqb (getD s 0 44) 45
+
+        -- a value is read up to 15 digits
+        go : (b : Bool) → leb precision 15 ≡ b → cond (b && true) (Units (signed negative (unitsOf scale (leadingField (drop k s))))) Misses ≡ cond b (Units (signed negative (size .number))) Misses
+        go true e = ap (λ (m : ℕ). Units (signed negative m)) (sym (a .says (omega (arith, room, leb-true precision 15 e))))
+        go false e = refl

@@ -7,20 +7,20 @@ use mathlib.Core.Bool.{Bool, true, false, _&&_}
 use lib.Dec.{leb}
 use Rattle.digits.specs.Digits.{digitsOf}
 use Rattle.calendar.specs.Calendar.{dayOf}
-use Rattle.amounts.specs.Amounts.{amountOf, units}
+use Rattle.amounts.specs.Amounts.{amountOf}
 use Rattle.fields.specs.declared.FieldType.{FieldType}
 use Rattle.fields.specs.declared.FieldType.the-variants.{RecordId, Digits, Number, Date, DateTime, Char, Varchar}
 use Rattle.fields.specs.Fields.{fitsType}
 use Rattle.columns.specs.Columns.{numberInColumn, dayInColumn}
 use Rattle.readings.specs.declared.Reading.{Reading}
 use Rattle.readings.specs.InsideLeadingBytes.{fieldEnd, leadingField, packed}
-use Rattle.amounts.specs.InsideSigned.{signedOf}
+use Rattle.amounts.specs.InsideSaid.{saidBy}
 
 -- the number n says what stands in the field f of a type. A number that no test reads says nothing.
 unfoldable pub Says : FieldType → List ℕ → ℕ → Type 0
 Says RecordId f n = n ≡ numberInColumn (digitsOf f)
 Says (Digits width) f n = n ≡ numberInColumn (digitsOf f)
-Says (Number precision scale) f n = precision ≤ 15 → signedOf n ≡ units (amountOf precision scale f)
+Says (Number precision scale) f n = saidBy n ≡ amountOf precision scale f
 Says Date f n = n ≡ dayInColumn (dayOf f)
 Says DateTime f n = Unit {0}
 Says (Char width) f n = width ≤ 4 → n ≡ packed f

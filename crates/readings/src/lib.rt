@@ -323,7 +323,7 @@ fn read_number(s: &[u8], precision: usize, scale: usize) -> Reading
     if !fits {
         return misses();
     }
-    reads(len + minus, number * 2 + minus as u64)
+    reads(len + minus, amounts::saying(precision, first == 45, number))
 }
 
 pub fn read_char(s: &[u8], width: usize) -> Reading

@@ -1,4 +1,5 @@
 pub mod Answers
+pub mod Before
 pub mod Columns
 pub mod Joined
 pub mod Outcomes

@@ -5,8 +5,8 @@ use mathlib.Core.List.{List, [], _∷_, _++_, map}
 use mathlib.Core.Bool.{Bool, not, _&&_, _||_}
 use lib.ListN.{length}
 use lib.Dec.{eqb, leb, ltb}
-use lib.IntN.{ℤ}
 use Rattle.digits.specs.Digits.{allDigits}
+use Rattle.amounts.specs.declared.Amount.{Amount}
 use Rattle.records.specs.Text.{linesOf}
 use Rattle.tables.specs.Types.{SH, TH, DU, CH, OC, FT}
 use Rattle.columns.specs.Columns.{numberIn, chargeIn, usageIn, recordType, recordId, parentId, site, startDay, endDay, cancel}
@@ -27,10 +27,10 @@ numbers column lines = map (numberIn column) lines
 abbrev pub types : List (List ℕ) → List ℕ
 types lines = numbers recordType lines
 
-abbrev pub charges : List (List ℕ) → List ℤ
+abbrev pub charges : List (List ℕ) → List Amount
 charges lines = map chargeIn lines
 
-abbrev pub usages : List (List ℕ) → List ℤ
+abbrev pub usages : List (List ℕ) → List Amount
 usages lines = map usageIn lines
 
 -- a column's values in the records of the types `low` to `high`, 0 in the others

@@ -3,13 +3,12 @@
 use Prim.Native.Nat.{ℕ, _≤_}
 use mathlib.Core.List.{List}
 use lib.ListN.{length}
-use lib.IntN.{ℤ}
 use Rattle.records.specs.Text.{linesOf}
 use Rattle.records.specs.InsidePlacedLines.{Placed}
 use Rattle.columns.specs.InsideColumns.{Room, ColumnsRead}
 
 -- ════ what is lent to the stages of Check: the places of the lines of a file, and their columns
-pub record Read (file : List ℕ) (n : ℕ) (starts ends words : List ℕ) (charges usages : List ℤ) : Type 0 where
+pub record Read (file : List ℕ) (n : ℕ) (starts ends words charges usages : List ℕ) : Type 0 where
   pub placed : Placed file n starts ends (linesOf file)
   pub few : n ≤ 4096
   pub some : 1 ≤ n

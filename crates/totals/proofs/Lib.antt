@@ -1,3 +1,4 @@
+pub mod Before
 pub mod Laws
 pub mod Meaning
 pub mod Running

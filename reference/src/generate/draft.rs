@@ -33,15 +33,13 @@ impl DraftRecord {
         self.fields[number - 1] = text.into();
     }
 
-    /// The amount in the field of this number, in units of its last place.
-    pub fn amount(&self, number: usize) -> i64 {
-        let FieldType::Number(precision, places) = self.record_type.fields()[number - 1].field_type
-        else {
-            return 0;
-        };
-        match amount_of(self.field(number).as_bytes(), precision, places) {
-            Amount::Value(units) => units,
-            Amount::Misses => 0,
+    /// The amount in the field of this number. A field of another type is none.
+    pub fn amount(&self, number: usize) -> Amount {
+        match self.record_type.fields()[number - 1].field_type {
+            FieldType::Number(precision, places) => {
+                amount_of(self.field(number).as_bytes(), precision, places)
+            }
+            _ => Amount::Misses,
         }
     }
 
@@ -50,7 +48,7 @@ impl DraftRecord {
         let FieldType::Number(_, places) = self.record_type.fields()[number - 1].field_type else {
             return;
         };
-        let shifted = self.amount(number) + units;
+        let shifted = self.amount(number).or_zero() + units;
         self.set(number, amount_text(shifted, places));
     }
 

@@ -314,9 +314,15 @@ pub(super) fn set_totals(draft: &mut Draft) {
         .records
         .iter()
         .map(|record| match record.record_type {
-            RecordType::UsageDeterminant => (record.field(4).to_owned(), record.amount(16), 0),
-            RecordType::TariffCharge => (record.field(4).to_owned(), 0, record.amount(18)),
-            RecordType::OneTimeCharge => (record.field(4).to_owned(), 0, record.amount(10)),
+            RecordType::UsageDeterminant => {
+                (record.field(4).to_owned(), record.amount(16).or_zero(), 0)
+            }
+            RecordType::TariffCharge => {
+                (record.field(4).to_owned(), 0, record.amount(18).or_zero())
+            }
+            RecordType::OneTimeCharge => {
+                (record.field(4).to_owned(), 0, record.amount(10).or_zero())
+            }
             _ => (String::new(), 0, 0),
         })
         .collect();

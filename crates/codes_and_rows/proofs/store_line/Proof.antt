@@ -7,11 +7,8 @@ use mathlib.Core.Path.{_≡_, _∙_, ap, subst}
 use native.Mathlib.Omega.{arith}
 use denote.Ref.{now}
 use borrow.Author.Needs.{needs}
-use lib.IntN.{ℤ}
 use lib.Dec.{lit<}
 use lib.ListN.{length, getD, set, length-set}
-use Rattle.lists.proofs.Signed.{value-kept}
-use Rattle.amounts.specs.InsideSigned.{signedOf}
 use Rattle.columns.proofs.Rows.{field-lent, column-inside, row-more}
 use Rattle.columns.specs.InsideRows.{RowStored}
 use Rattle.columns.specs.Columns.{fieldOf}
@@ -46,61 +43,61 @@ wide c = length-set (now (c .args .words)) (c .args .i) (c .args .record-type) �
 
 loop-holds : tie.Need-loop-holds Inv-loop μ-loop
 loop-holds c =
-    let a = c .before .before .args in
+    let a = c .args in
     (omega arith, omega arith, type-stored (a .record-type) (now (a .numbers)) (length (now (a .charges))) (a .i) (now (a .words)) (omega arith) (omega arith))
 
 mul-words-2 : tie.Need-mul-words-2 Inv-loop μ-loop
-mul-words-2 c = omega (arith, small (c .before .before .before .before .before) (c .before .before .loop .c) (omega arith))
+mul-words-2 c = omega (arith, small (c .before .before .before) (c .before .before .loop .c) (omega arith))
 
 shared-slice-read-words : tie.Need-shared-slice-read-words Inv-loop μ-loop
-shared-slice-read-words c = small (c .before .before .before .before .before .before) (c .before .before .before .loop .c) (omega arith)
+shared-slice-read-words c = small (c .before .before .before .before) (c .before .before .before .loop .c) (omega arith)
 
 mul-words-3 : tie.Need-mul-words-3 Inv-loop μ-loop
-mul-words-3 c = omega (arith, inside (c .before .before .before .before .before .before) (c .before .before .before .loop .c) (omega arith))
+mul-words-3 c = omega (arith, inside (c .before .before .before .before) (c .before .before .before .loop .c) (omega arith))
 
 add-words : tie.Need-add-words Inv-loop μ-loop
-add-words c = omega (arith, inside (c .before .before .before .before .before .before) (c .before .before .before .loop .c) (omega arith))
+add-words c = omega (arith, inside (c .before .before .before .before) (c .before .before .before .loop .c) (omega arith))
 
 mul-words-4 : tie.Need-mul-words-4 Inv-loop μ-loop
-mul-words-4 c = omega (arith, inside (c .before .before .before .before .before .before) (c .before .before .before .loop .c) (omega arith))
+mul-words-4 c = omega (arith, inside (c .before .before .before .before) (c .before .before .before .loop .c) (omega arith))
 
 slice-write-words-2 : tie.Need-slice-write-words-2 Inv-loop μ-loop
-slice-write-words-2 c = omega (arith, inside (c .before .before .before .before .before .before) (c .before .before .before .loop .c) (omega arith), c .before .before .before .loop .inv .2 .size, wide (c .before .before .before .before .before .before))
+slice-write-words-2 c = omega (arith, inside (c .before .before .before .before) (c .before .before .before .loop .c) (omega arith), c .before .before .before .loop .inv .2 .size, wide (c .before .before .before .before))
 
 loop-again : tie.Need-loop-again Inv-loop μ-loop
 loop-again c =
     let at = c .before .before .before .loop in
-    let start = c .before .before .before .before .before .before in (
+    let start = c .before .before .before .before in (
       omega arith,
       omega arith,
       row-more (at .inv .2) (omega arith) (omega (arith, inside start (at .c) (omega arith), wide start)) _ (stored-number _ _ (at .c) _ (at .inv .0) (c .before .before .loop-test .taken) (said start (at .c) (omega arith))),
     )
 
 mul-if1 : tie.Need-mul-if1 Inv-loop μ-loop
-mul-if1 c = omega (arith, small (c .before .before .before .before .before) 7 (lit< tt))
+mul-if1 c = omega (arith, small (c .before .before .before) 7 (lit< tt))
 
 shared-slice-read-if1 : tie.Need-shared-slice-read-if1 Inv-loop μ-loop
-shared-slice-read-if1 c = small (c .before .before .before .before .before .before) 7 (lit< tt)
+shared-slice-read-if1 c = small (c .before .before .before .before) 7 (lit< tt)
 
 slice-write-words-3 : tie.Need-slice-write-words-3 Inv-loop μ-loop
-slice-write-words-3 c = omega (arith, inside (c .before .before .before .before .before .before .before) 7 (lit< tt), c .before .before .before .before .loop .inv .2 .size, wide (c .before .before .before .before .before .before .before))
+slice-write-words-3 c = omega (arith, inside (c .before .before .before .before .before) 7 (lit< tt), c .before .before .before .before .loop .inv .2 .size, wide (c .before .before .before .before .before))
 
-mul-signed : tie.Need-mul-signed Inv-loop μ-loop
-mul-signed c = omega (arith, small (c .before .before .before .before .before .before .before .before) 8 (lit< tt))
+mul-charges : tie.Need-mul-charges Inv-loop μ-loop
+mul-charges c = omega (arith, small (c .before .before .before .before .before .before) 8 (lit< tt))
 
-shared-slice-read-signed : tie.Need-shared-slice-read-signed Inv-loop μ-loop
-shared-slice-read-signed c = small (c .before .before .before .before .before .before .before .before .before) 8 (lit< tt)
+shared-slice-read-charges : tie.Need-shared-slice-read-charges Inv-loop μ-loop
+shared-slice-read-charges c = small (c .before .before .before .before .before .before .before) 8 (lit< tt)
 
-mul-signed-2 : tie.Need-mul-signed-2 Inv-loop μ-loop
-mul-signed-2 c = omega (arith, small (c .before .before .before .before .before .before .before .before .before .before .before) 9 (lit< tt))
+mul-usages : tie.Need-mul-usages Inv-loop μ-loop
+mul-usages c = omega (arith, small (c .before .before .before .before .before .before .before .before) 9 (lit< tt))
 
-shared-slice-read-signed-2 : tie.Need-shared-slice-read-signed-2 Inv-loop μ-loop
-shared-slice-read-signed-2 c = small (c .before .before .before .before .before .before .before .before .before .before .before .before) 9 (lit< tt)
+shared-slice-read-usages : tie.Need-shared-slice-read-usages Inv-loop μ-loop
+shared-slice-read-usages c = small (c .before .before .before .before .before .before .before .before .before) 9 (lit< tt)
 
 -- the words, once all is stored
-stored : (c : tie.Joined1 Inv-loop μ-loop) → let a = c .before .before .before .before .before .before .before .args in RowStored (length (now (a .charges))) (now (a .words)) (a .i) (columnNumbers (a .record-type) (now (a .numbers))) 8 (set (c .before .before .before .before .loop .words) (7 * length (now (a .charges)) + a .i) (c .if1 .words))
+stored : (c : tie.Joined1 Inv-loop μ-loop) → let a = c .before .before .before .before .before .args in RowStored (length (now (a .charges))) (now (a .words)) (a .i) (columnNumbers (a .record-type) (now (a .numbers))) 8 (set (c .before .before .before .before .loop .words) (7 * length (now (a .charges)) + a .i) (c .if1 .words))
 stored c =
-    let start = c .before .before .before .before .before .before .before in
+    let start = c .before .before .before .before .before in
     let a = start .args in
     let end = c .before .before .before .before .loop in
     let all : end .c ≡ 7 = omega (arith, end .inv .1, c .before .before .before .loop-test .left) in
@@ -114,16 +111,16 @@ stored c =
     (c .if1 .came)))
 
 same-length : tie.Need-same-length Inv-loop μ-loop
-same-length c = stored (c .before .before .before .before .before .before) .size
+same-length c = stored (c .before .before .before .before) .size
 
 returns : tie.Need-returns Inv-loop μ-loop
 returns c =
-    let start = c .before .before .before .before .before .before .before .before .before .before .before .before .before in
+    let start = c .before .before .before .before .before .before .before .before .before in
     let a = start .args in (
-      stored (c .before .before .before .before .before .before),
+      stored (c .before .before .before .before),
       (
-        ap (λ (x : ℤ). set (now (a .charges)) (a .i) x) (value-kept (search needs) (c .before .before .before .signed .ensures ∙ ap signedOf (said start 8 (lit< tt)))),
-        ap (λ (x : ℤ). set (now (a .usages)) (a .i) x) (value-kept (search needs) (c .signed2 .ensures ∙ ap signedOf (said start 9 (lit< tt)))),
+        ap (λ (x : ℕ). set (now (a .charges)) (a .i) x) (said start 8 (lit< tt)),
+        ap (λ (x : ℕ). set (now (a .usages)) (a .i) x) (said start 9 (lit< tt)),
       ),
     )
 
@@ -161,17 +158,15 @@ store-line-spec =
     (λ c. search needs)
     (λ c. search needs)
     (λ c. search needs)
-    mul-signed
-    shared-slice-read-signed
-    (λ c κs. search needs)
+    mul-charges
+    shared-slice-read-charges
     (λ c. search needs)
     (λ c. search needs)
     (λ c. search needs)
     (λ c. search needs)
     (λ c. search needs)
-    mul-signed-2
-    shared-slice-read-signed-2
-    (λ c κs. search needs)
+    mul-usages
+    shared-slice-read-usages
     (λ c. search needs)
     (λ c. search needs)
     same-length

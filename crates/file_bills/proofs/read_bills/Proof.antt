@@ -21,12 +21,12 @@ abbrev μ-loop : tie.MeasureT-loop
 
 loop-holds : tie.Need-loop-holds Inv-loop μ-loop
 loop-holds c =
-    let s = c .before .before .before .before .before .before .before in
+    let s = c .before .before .before .before .before .before .before .before .before in
     (omega arith, refl, refl, refl, refl, reading-none (linesOf (now (s .args .file))) _ _ _ _)
 
 read-bill-requires : tie.Need-read-bill-requires Inv-loop μ-loop
 read-bill-requires c κs =
-    let s = c .before .before .before .before .before .before .before .before .before .before .before .before .before in
+    let s = c .before .before .before .before .before .before .before .before .before .before .before .before .before .before .before in
     let p = c .before .before .before .before .before .loop in
     let r = s .pre .1 .2 in
     ((s .pre .0, c .before .before .before .before .loop-test .taken), ((s .pre .1 .0, s .pre .1 .1), (record { entry-room = room-same (p .inv .1) (p .inv .2) (r .entry-room); references-room = omega (arith, r .references-room, p .inv .3); at-room = omega (arith, r .at-room, p .inv .4) }, p .inv .5)))
@@ -39,7 +39,7 @@ loop-again c =
 
 returns : tie.Need-returns Inv-loop μ-loop
 returns c =
-    let s = c .before .before .before .before .before .before .before .before .before in
+    let s = c .before .before .before .before .before .before .before .before .before .before .before in
     let p = c .before .loop in
     let z : p .i ≡ s .args .n = omega (arith, p .inv .0) in
     subst (λ (k : ℕ). Reading (linesOf (now (s .args .file))) k (p .m) (p .bill-words) (p .bill-amounts) (p .references) (p .at)) z (p .inv .5)

@@ -54,23 +54,23 @@ abbrev linesAt : tie.Start Inv-loop μ-loop Inv-records μ-records → List (Lis
 linesAt c = linesOf (now (c .args .file))
 
 -- the line that is read next
-place : (c : tie.Then1 Inv-loop μ-loop Inv-records μ-records) → let a = c .before .before .before .before .before .before .before .before .before .before .before .before .args in let i = c .before .before .records .read .stopped in At (now (a .file)) (getD (now (a .starts)) i 0) (getD (now (a .ends)) i 0) (lineAt (linesAt (c .before .before .before .before .before .before .before .before .before .before .before .before)) i)
-place c = placed-at (c .before .before .before .before .before .before .before .before .before .before .before .before .pre .0 .0) (c .before .before .records .read .stopped) (c .if1 .taken)
+place : (c : tie.Then1 Inv-loop μ-loop Inv-records μ-records) → let a = c .before .before .before .before .before .before .before .before .before .before .before .before .before .before .args in let i = c .before .before .records .read .stopped in At (now (a .file)) (getD (now (a .starts)) i 0) (getD (now (a .ends)) i 0) (lineAt (linesAt (c .before .before .before .before .before .before .before .before .before .before .before .before .before .before)) i)
+place c = placed-at (c .before .before .before .before .before .before .before .before .before .before .before .before .before .before .pre .0 .0) (c .before .before .records .read .stopped) (c .if1 .taken)
 
 -- no place in the file wraps
-size : (c : tie.Then1 Inv-loop μ-loop Inv-records μ-records) → length (now (c .before .before .before .before .before .before .before .before .before .before .before .before .args .file)) + 1 < 18446744073709551616
-size c = omega (arith, c .before .before .before .before .before .before .before .before .before .before .before .before .good .1 .1 .1 .1 .0 .1)
+size : (c : tie.Then1 Inv-loop μ-loop Inv-records μ-records) → length (now (c .before .before .before .before .before .before .before .before .before .before .before .before .before .before .args .file)) + 1 < 18446744073709551616
+size c = omega (arith, c .before .before .before .before .before .before .before .before .before .before .before .before .before .before .good .1 .1 .1 .1 .0 .1)
 
 -- where the line fails, the reader stops
-fails : {A B : Type 0} (c : tie.Then1 Inv-loop μ-loop Inv-records μ-records) → let a = c .before .before .before .before .before .before .before .before .before .before .before .before .args in let i = c .before .before .records .read .stopped in unread (part (now (a .file)) (getD (now (a .starts)) i 0) (getD (now (a .ends)) i 0)) ≡ true
-    → (i ≡ firstUnread (linesAt (c .before .before .before .before .before .before .before .before .before .before .before .before))) × ((i ≡ length (linesAt (c .before .before .before .before .before .before .before .before .before .before .before .before)) → A) × (i ≡ length (linesAt (c .before .before .before .before .before .before .before .before .before .before .before .before)) → B))
-fails c e = stops (linesAt (c .before .before .before .before .before .before .before .before .before .before .before .before)) (c .before .before .before .before .before .before .before .before .before .before .before .before .args .n) (c .before .before .records .inv .1) (c .if1 .taken) (c .before .before .before .before .before .before .before .before .before .before .before .before .pre .0 .0 .count) (subst (λ (l : List ℕ). unread l ≡ true) (place c .same) e)
+fails : {A B : Type 0} (c : tie.Then1 Inv-loop μ-loop Inv-records μ-records) → let a = c .before .before .before .before .before .before .before .before .before .before .before .before .before .before .args in let i = c .before .before .records .read .stopped in unread (part (now (a .file)) (getD (now (a .starts)) i 0) (getD (now (a .ends)) i 0)) ≡ true
+    → (i ≡ firstUnread (linesAt (c .before .before .before .before .before .before .before .before .before .before .before .before .before .before))) × ((i ≡ length (linesAt (c .before .before .before .before .before .before .before .before .before .before .before .before .before .before)) → A) × (i ≡ length (linesAt (c .before .before .before .before .before .before .before .before .before .before .before .before .before .before)) → B))
+fails c e = stops (linesAt (c .before .before .before .before .before .before .before .before .before .before .before .before .before .before)) (c .before .before .before .before .before .before .before .before .before .before .before .before .before .before .args .n) (c .before .before .records .inv .1) (c .if1 .taken) (c .before .before .before .before .before .before .before .before .before .before .before .before .before .before .pre .0 .0 .count) (subst (λ (l : List ℕ). unread l ≡ true) (place c .same) e)
 
 -- the first three fields
 known : (c : tie.Else2 Inv-loop μ-loop Inv-records μ-records) → c .before .read-head .result .record_type < 9
 known c = omega (arith, c .if2 .left)
 
-head : (c : tie.Else2 Inv-loop μ-loop Inv-records μ-records) → let a = c .before .before .before .before .before .before .before .before .before .before .before .before .before .before .before .before .before .args in let i = c .before .before .before .before .before .before .before .records .read .stopped in
+head : (c : tie.Else2 Inv-loop μ-loop Inv-records μ-records) → let a = c .before .before .before .before .before .before .before .before .before .before .before .before .before .before .before .before .before .before .before .args in let i = c .before .before .before .before .before .before .before .records .read .stopped in
     HeadRead (now (a .file)) (part (now (a .file)) (getD (now (a .starts)) i 0) (getD (now (a .ends)) i 0)) (getD (now (a .starts)) i 0) (getD (now (a .ends)) i 0) (c .before .read-head .result) (c .before .read-head .last .1 .1 .1 .0)
 head c = c .before .read-head .ensures .0 (known c)
 
@@ -79,45 +79,45 @@ few : (c : tie.After-field-count Inv-loop μ-loop Inv-records μ-records) → c 
 few c = omega (arith, c .field-count .ensures, count-most (c .before .before .before .before .before .before .read-head .result .record_type) (known (c .before .before .before .before .before)))
 
 -- the field that was read
-read : (c : tie.Else4 Inv-loop μ-loop Inv-records μ-records) → let a = c .before .before .before .before .before .before .before .before .before .before .before .before .before .before .before .before .before .before .before .before .before .before .before .before .before .before .before .before .before .before .args in
+read : (c : tie.Else4 Inv-loop μ-loop Inv-records μ-records) → let a = c .before .before .before .before .before .before .before .before .before .before .before .before .before .before .before .before .before .before .before .before .before .before .before .before .before .before .before .before .before .before .before .before .args in
     FieldRead (typeOfCode (getD (now (a .codes)) (c .before .before .before .before .before .before .before .before .before .before .before .before .before .before .read-head .result .record_type * 19 + c .before .before .before .before .before .before .loop .k) 0)) (part (now (a .file)) (c .before .before .before .before .before .before .loop .a) (getD (now (a .ends)) (c .before .before .before .before .before .before .before .before .before .before .before .before .before .before .before .before .before .before .before .before .records .read .stopped) 0)) (c .before .read-field .result)
 read c = c .before .read-field .ensures .0 (not-false _ (c .if4 .left))
 
-low : (c : tie.Else3 Inv-loop μ-loop Inv-records μ-records) → c .before .before .loop .a ≤ getD (now (c .before .before .before .before .before .before .before .before .before .before .before .before .before .before .before .before .before .before .before .before .before .before .before .before .before .before .args .ends)) (c .before .before .before .before .before .before .before .before .before .before .before .before .before .before .before .before .records .read .stopped) 0
+low : (c : tie.Else3 Inv-loop μ-loop Inv-records μ-records) → c .before .before .loop .a ≤ getD (now (c .before .before .before .before .before .before .before .before .before .before .before .before .before .before .before .before .before .before .before .before .before .before .before .before .before .before .before .before .args .ends)) (c .before .before .before .before .before .before .before .before .before .before .before .before .before .before .before .before .records .read .stopped) 0
 low c = omega (arith, c .if3 .left)
 
-inside : (c : tie.Else4 Inv-loop μ-loop Inv-records μ-records) → c .before .before .before .before .before .before .loop .a + c .before .read-field .result .len ≤ getD (now (c .before .before .before .before .before .before .before .before .before .before .before .before .before .before .before .before .before .before .before .before .before .before .before .before .before .before .before .before .before .before .args .ends)) (c .before .before .before .before .before .before .before .before .before .before .before .before .before .before .before .before .before .before .before .before .records .read .stopped) 0
-inside c = omega (arith, read c .ends, end-inside (now (c .before .before .before .before .before .before .before .before .before .before .before .before .before .before .before .before .before .before .before .before .before .before .before .before .before .before .before .before .before .before .args .file)) (c .before .before .before .before .before .before .loop .a) (getD (now (c .before .before .before .before .before .before .before .before .before .before .before .before .before .before .before .before .before .before .before .before .before .before .before .before .before .before .before .before .before .before .args .ends)) (c .before .before .before .before .before .before .before .before .before .before .before .before .before .before .before .before .before .before .before .before .records .read .stopped) 0) (low (c .before .before .before .before)) (place (c .before .before .before .before .before .before .before .before .before .before .before .before .before .before .before .before .before .before) .high))
+inside : (c : tie.Else4 Inv-loop μ-loop Inv-records μ-records) → c .before .before .before .before .before .before .loop .a + c .before .read-field .result .len ≤ getD (now (c .before .before .before .before .before .before .before .before .before .before .before .before .before .before .before .before .before .before .before .before .before .before .before .before .before .before .before .before .before .before .before .before .args .ends)) (c .before .before .before .before .before .before .before .before .before .before .before .before .before .before .before .before .before .before .before .before .records .read .stopped) 0
+inside c = omega (arith, read c .ends, end-inside (now (c .before .before .before .before .before .before .before .before .before .before .before .before .before .before .before .before .before .before .before .before .before .before .before .before .before .before .before .before .before .before .before .before .args .file)) (c .before .before .before .before .before .before .loop .a) (getD (now (c .before .before .before .before .before .before .before .before .before .before .before .before .before .before .before .before .before .before .before .before .before .before .before .before .before .before .before .before .before .before .before .before .args .ends)) (c .before .before .before .before .before .before .before .before .before .before .before .before .before .before .before .before .before .before .before .before .records .read .stopped) 0) (low (c .before .before .before .before)) (place (c .before .before .before .before .before .before .before .before .before .before .before .before .before .before .before .before .before .before) .high))
 
 -- whether the fields are filled, that field with them
-flag : (c : tie.After-still-filled Inv-loop μ-loop Inv-records μ-records) → let a = c .before .before .before .before .before .before .before .before .before .before .before .before .before .before .before .before .before .before .before .before .before .before .before .before .before .before .before .before .before .before .before .before .args in let i = c .before .before .before .before .before .before .before .before .before .before .before .before .before .before .before .before .before .before .before .before .before .before .records .read .stopped in
+flag : (c : tie.After-still-filled Inv-loop μ-loop Inv-records μ-records) → let a = c .before .before .before .before .before .before .before .before .before .before .before .before .before .before .before .before .before .before .before .before .before .before .before .before .before .before .before .before .before .before .before .before .before .before .args in let i = c .before .before .before .before .before .before .before .before .before .before .before .before .before .before .before .before .before .before .before .before .before .before .records .read .stopped in
     FilledTo (c .before .before .before .before .before .before .before .before .before .before .before .before .before .before .before .before .read-head .result .record_type) (part (now (a .file)) (getD (now (a .starts)) i 0) (getD (now (a .ends)) i 0)) (c .before .before .before .before .before .before .before .before .loop .k + 1) (c .still-filled .result)
 flag c =
     let p = c .before .before .before .before .before .before .before .before .loop in
     let type = c .before .before .before .before .before .before .before .before .before .before .before .before .before .before .before .before .read-head .result .record_type in
     let long = read (c .before .before) .ends ∙ sym (ap length (field-is (p .inv .2 .read) (low (c .before .before .before .before .before .before)) (place (c .before .before .before .before .before .before .before .before .before .before .before .before .before .before .before .before .before .before .before .before) .high)) ∙ field-length _) in
-    let asked = mark-field type _ (c .before .before .before .before .before .before .before .before .before .before .before .before .before .before .before .before .before .before .before .before .before .before .before .before .before .before .before .before .before .before .before .before .pre .1 .1 .2) (known (c .before .before .before .before .before .before .before .before .before .before .before .before .before .before .before)) (p .k) (p .inv .0) (omega (arith, few (c .before .before .before .before .before .before .before .before .before .before), c .before .before .before .before .before .before .before .loop-test .taken)) long in
+    let asked = mark-field type _ (c .before .before .before .before .before .before .before .before .before .before .before .before .before .before .before .before .before .before .before .before .before .before .before .before .before .before .before .before .before .before .before .before .before .before .pre .1 .1 .2) (known (c .before .before .before .before .before .before .before .before .before .before .before .before .before .before .before)) (p .k) (p .inv .0) (omega (arith, few (c .before .before .before .before .before .before .before .before .before .before), c .before .before .before .before .before .before .before .loop-test .taken)) long in
     filled-more type _ (p .k) (p .inv .2 .flag) asked (c .still-filled .ensures)
 
 records-holds : tie.Need-records-holds Inv-loop μ-loop Inv-records μ-records
 records-holds c = (
   omega (arith, c .none-read .ensures .0),
   lines-none _ _ (c .none-read .ensures .0) (c .none-read .ensures .1) (c .none-read .ensures .2),
-  rw (c .none-read .ensures .0) (reading-none _ _ _ _ (c .before .before .before .before .before .before .before .before .before .pre .1 .0 .0 .words-length)),
+  rw (c .none-read .ensures .0) (reading-none _ _ _ _ (c .before .before .before .before .before .before .before .before .before .before .before .pre .1 .0 .0 .words-length)),
   record { none = refl; size = refl; starts = ap length (c .before .no-record .ensures .2); ends = ap length (c .before .no-record .ensures .3) },
 )
 
 mul-start : tie.Need-mul-start Inv-loop μ-loop Inv-records μ-records
-mul-start c = omega (arith, c .if1 .taken, c .before .before .before .before .before .before .before .before .before .before .before .before .pre .1 .0 .0 .few, c .before .before .before .before .before .before .before .before .before .before .before .before .pre .1 .0 .1)
+mul-start c = omega (arith, c .if1 .taken, c .before .before .before .before .before .before .before .before .before .before .before .before .before .before .pre .1 .0 .0 .few, c .before .before .before .before .before .before .before .before .before .before .before .before .before .before .pre .1 .0 .1)
 
 shared-slice-read-start : tie.Need-shared-slice-read-start Inv-loop μ-loop Inv-records μ-records
-shared-slice-read-start c = omega (arith, c .before .if1 .taken, c .before .before .before .before .before .before .before .before .before .before .before .before .before .pre .0 .0 .starts)
+shared-slice-read-start c = omega (arith, c .before .if1 .taken, c .before .before .before .before .before .before .before .before .before .before .before .before .before .before .before .pre .0 .0 .starts)
 
 mul-e : tie.Need-mul-e Inv-loop μ-loop Inv-records μ-records
-mul-e c = omega (arith, c .before .if1 .taken, c .before .before .before .before .before .before .before .before .before .before .before .before .before .pre .1 .0 .0 .few, c .before .before .before .before .before .before .before .before .before .before .before .before .before .pre .1 .0 .1)
+mul-e c = omega (arith, c .before .if1 .taken, c .before .before .before .before .before .before .before .before .before .before .before .before .before .before .before .pre .1 .0 .0 .few, c .before .before .before .before .before .before .before .before .before .before .before .before .before .before .before .pre .1 .0 .1)
 
 shared-slice-read-e : tie.Need-shared-slice-read-e Inv-loop μ-loop Inv-records μ-records
-shared-slice-read-e c = omega (arith, c .before .before .if1 .taken, c .before .before .before .before .before .before .before .before .before .before .before .before .before .before .pre .0 .0 .ends)
+shared-slice-read-e c = omega (arith, c .before .before .if1 .taken, c .before .before .before .before .before .before .before .before .before .before .before .before .before .before .before .before .pre .0 .0 .ends)
 
 read-head-requires : tie.Need-read-head-requires Inv-loop μ-loop Inv-records μ-records
 read-head-requires c κs = record { low = place (c .before .before .before) .low; high = place (c .before .before .before) .high; size = c .before .before .before .before .before .records .inv .3 .size; none = c .before .before .before .before .before .records .inv .3 .none }
@@ -146,20 +146,20 @@ mul-read-field c = omega (arith, known (c .before .before .before .before .befor
 
 shared-slice-read-read-field :
     tie.Need-shared-slice-read-read-field Inv-loop μ-loop Inv-records μ-records
-shared-slice-read-read-field c = let size : length (now (c .before .before .before .before .before .before .before .before .before .before .before .before .before .before .before .before .before .before .before .before .before .before .before .before .before .before .before .args .codes)) ≡ 171 = ap length (c .before .before .before .before .before .before .before .before .before .before .before .before .before .before .before .before .before .before .before .before .before .before .before .before .before .before .before .pre .1 .1 .1) ∙ refl in omega (arith, known (c .before .before .before .before .before .before .before .before .before .before), few (c .before .before .before .before .before), size)
+shared-slice-read-read-field c = let size : length (now (c .before .before .before .before .before .before .before .before .before .before .before .before .before .before .before .before .before .before .before .before .before .before .before .before .before .before .before .before .before .args .codes)) ≡ 171 = ap length (c .before .before .before .before .before .before .before .before .before .before .before .before .before .before .before .before .before .before .before .before .before .before .before .before .before .before .before .before .before .pre .1 .1 .1) ∙ refl in omega (arith, known (c .before .before .before .before .before .before .before .before .before .before), few (c .before .before .before .before .before), size)
 
 part-read-field-end : tie.Need-part-read-field-end Inv-loop μ-loop Inv-records μ-records
 part-read-field-end c = place (c .before .before .before .before .before .before .before .before .before .before .before .before .before .before .before) .high
 
 read-field-requires : tie.Need-read-field-requires Inv-loop μ-loop Inv-records μ-records
-read-field-requires c κs = (c .before .before .before .before .before .before .before .before .before .before .before .before .before .before .before .before .before .before .before .before .before .before .before .before .before .before .before .before .pre .1 .1 .0, code-narrow (c .before .before .before .before .before .before .before .before .before .before .before .before .read-head .result .record_type) (c .before .before .before .before .loop .k) (known (c .before .before .before .before .before .before .before .before .before .before .before)) (omega (arith, few (c .before .before .before .before .before .before))) (c .before .before .before .before .before .before .before .before .before .before .before .before .before .before .before .before .before .before .before .before .before .before .before .before .before .before .before .before .pre .1 .1 .1))
+read-field-requires c κs = (c .before .before .before .before .before .before .before .before .before .before .before .before .before .before .before .before .before .before .before .before .before .before .before .before .before .before .before .before .before .before .pre .1 .1 .0, code-narrow (c .before .before .before .before .before .before .before .before .before .before .before .before .read-head .result .record_type) (c .before .before .before .before .loop .k) (known (c .before .before .before .before .before .before .before .before .before .before .before)) (omega (arith, few (c .before .before .before .before .before .before))) (c .before .before .before .before .before .before .before .before .before .before .before .before .before .before .before .before .before .before .before .before .before .before .before .before .before .before .before .before .before .before .pre .1 .1 .1))
 
 add-still-filled : tie.Need-add-still-filled Inv-loop μ-loop Inv-records μ-records
 add-still-filled c = omega (arith, known (c .before .before .before .before .before .before .before .before .before .before .before .before .before), few (c .before .before .before .before .before .before .before .before))
 
 shared-slice-read-still-filled :
     tie.Need-shared-slice-read-still-filled Inv-loop μ-loop Inv-records μ-records
-shared-slice-read-still-filled c = let size : length (now (c .before .before .before .before .before .before .before .before .before .before .before .before .before .before .before .before .before .before .before .before .before .before .before .before .before .before .before .before .before .before .before .args .marks)) ≡ 171 = ap length (c .before .before .before .before .before .before .before .before .before .before .before .before .before .before .before .before .before .before .before .before .before .before .before .before .before .before .before .before .before .before .before .pre .1 .1 .2) ∙ refl in omega (arith, known (c .before .before .before .before .before .before .before .before .before .before .before .before .before .before), few (c .before .before .before .before .before .before .before .before .before), size)
+shared-slice-read-still-filled c = let size : length (now (c .before .before .before .before .before .before .before .before .before .before .before .before .before .before .before .before .before .before .before .before .before .before .before .before .before .before .before .before .before .before .before .before .before .args .marks)) ≡ 171 = ap length (c .before .before .before .before .before .before .before .before .before .before .before .before .before .before .before .before .before .before .before .before .before .before .before .before .before .before .before .before .before .before .before .before .before .pre .1 .1 .2) ∙ refl in omega (arith, known (c .before .before .before .before .before .before .before .before .before .before .before .before .before .before), few (c .before .before .before .before .before .before .before .before .before), size)
 
 mul-record : tie.Need-mul-record Inv-loop μ-loop Inv-records μ-records
 mul-record c = omega (arith, few (c .before .before .before .before .before .before .before .before .before .before))
@@ -194,35 +194,35 @@ loop-again c =
     let small : p .k < 19 = omega (arith, few (c .before .before .before .before .before .before .before .before .before .before), c .before .before .before .before .before .before .before .loop-test .taken) in (
       omega (arith, p .inv .0),
       omega (arith, c .before .before .before .before .before .before .before .loop-test .taken),
-      fields-more (p .inv .2) (low (c .before .before .before .before .before .before)) (place (c .before .before .before .before .before .before .before .before .before .before .before .before .before .before .before .before .before .before .before .before) .high) small (code-type (c .before .before .before .before .before .before .before .before .before .before .before .before .before .before .before .before .read-head .result .record_type) (p .k) (known (c .before .before .before .before .before .before .before .before .before .before .before .before .before .before .before)) small (c .before .before .before .before .before .before .before .before .before .before .before .before .before .before .before .before .before .before .before .before .before .before .before .before .before .before .before .before .before .before .before .before .pre .1 .1 .1)) (read (c .before .before)) (flag (c)),
+      fields-more (p .inv .2) (low (c .before .before .before .before .before .before)) (place (c .before .before .before .before .before .before .before .before .before .before .before .before .before .before .before .before .before .before .before .before) .high) small (code-type (c .before .before .before .before .before .before .before .before .before .before .before .before .before .before .before .before .read-head .result .record_type) (p .k) (known (c .before .before .before .before .before .before .before .before .before .before .before .before .before .before .before)) small (c .before .before .before .before .before .before .before .before .before .before .before .before .before .before .before .before .before .before .before .before .before .before .before .before .before .before .before .before .before .before .before .before .before .before .pre .1 .1 .1)) (read (c .before .before)) (flag (c)),
     )
 
 -- all fields are read
-done : (c : tie.Else5 Inv-loop μ-loop Inv-records μ-records) → let a = c .before .before .before .before .before .before .before .before .before .before .before .before .before .before .before .before .before .before .before .before .before .before .before .before .before .before .args in let i = c .before .before .before .before .before .before .before .before .before .before .before .before .before .before .before .before .records .read .stopped in let p = c .before .before .loop in
+done : (c : tie.Else5 Inv-loop μ-loop Inv-records μ-records) → let a = c .before .before .before .before .before .before .before .before .before .before .before .before .before .before .before .before .before .before .before .before .before .before .before .before .before .before .before .before .args in let i = c .before .before .before .before .before .before .before .before .before .before .before .before .before .before .before .before .records .read .stopped in let p = c .before .before .loop in
     FieldsTo (now (a .file)) (part (now (a .file)) (getD (now (a .starts)) i 0) (getD (now (a .ends)) i 0)) (c .before .before .before .before .before .before .before .before .before .before .read-head .result .record_type) (c .before .before .before .before .field-count .result) (p .a) (getD (now (a .ends)) i 0) (p .filled) (p .numbers) (p .«record» .starts) (p .«record» .ends)
 done c =
-    let a = c .before .before .before .before .before .before .before .before .before .before .before .before .before .before .before .before .before .before .before .before .before .before .before .before .before .before .args in
+    let a = c .before .before .before .before .before .before .before .before .before .before .before .before .before .before .before .before .before .before .before .before .before .before .before .before .before .before .before .before .args in
     let i = c .before .before .before .before .before .before .before .before .before .before .before .before .before .before .before .before .records .read .stopped in
     let p = c .before .before .loop in
     let all : p .k ≡ c .before .before .before .before .field-count .result = omega (arith, p .inv .1, c .before .loop-test .left) in
     subst (λ (k : ℕ). FieldsTo (now (a .file)) (part (now (a .file)) (getD (now (a .starts)) i 0) (getD (now (a .ends)) i 0)) (c .before .before .before .before .before .before .before .before .before .before .read-head .result .record_type) k (p .a) (getD (now (a .ends)) i 0) (p .filled) (p .numbers) (p .«record» .starts) (p .«record» .ends)) all (p .inv .2)
 
-past : (c : tie.Else5 Inv-loop μ-loop Inv-records μ-records) → getD (now (c .before .before .before .before .before .before .before .before .before .before .before .before .before .before .before .before .before .before .before .before .before .before .before .before .before .before .args .ends)) (c .before .before .before .before .before .before .before .before .before .before .before .before .before .before .before .before .records .read .stopped) 0 < c .before .before .loop .a
+past : (c : tie.Else5 Inv-loop μ-loop Inv-records μ-records) → getD (now (c .before .before .before .before .before .before .before .before .before .before .before .before .before .before .before .before .before .before .before .before .before .before .before .before .before .before .before .before .args .ends)) (c .before .before .before .before .before .before .before .before .before .before .before .before .before .before .before .before .records .read .stopped) 0 < c .before .before .loop .a
 past c = omega (arith, c .if5 .left)
 
 -- so the line is
-line : (c : tie.Else5 Inv-loop μ-loop Inv-records μ-records) → LineRead (lineAt (linesAt (c .before .before .before .before .before .before .before .before .before .before .before .before .before .before .before .before .before .before .before .before .before .before .before .before .before .before)) (c .before .before .before .before .before .before .before .before .before .before .before .before .before .before .before .before .records .read .stopped)) (c .before .before .before .before .before .before .before .before .before .before .read-head .result .record_type) (c .before .before .loop .filled) (c .before .before .loop .numbers)
+line : (c : tie.Else5 Inv-loop μ-loop Inv-records μ-records) → LineRead (lineAt (linesAt (c .before .before .before .before .before .before .before .before .before .before .before .before .before .before .before .before .before .before .before .before .before .before .before .before .before .before .before .before)) (c .before .before .before .before .before .before .before .before .before .before .before .before .before .before .before .before .records .read .stopped)) (c .before .before .before .before .before .before .before .before .before .before .read-head .result .record_type) (c .before .before .loop .filled) (c .before .before .loop .numbers)
 line c =
     subst (λ (l : List ℕ). LineRead l (c .before .before .before .before .before .before .before .before .before .before .read-head .result .record_type) (c .before .before .loop .filled) (c .before .before .loop .numbers)) (place (c .before .before .before .before .before .before .before .before .before .before .before .before .before .before) .same)
     (fields-end (done c) (known (c .before .before .before .before .before .before .before .before .before)) (c .before .before .before .before .field-count .ensures) (past c) (head (c .before .before .before .before .before .before .before .before .before) .type) (head (c .before .before .before .before .before .before .before .before .before) .printable))
 
 -- and the commodity that the first line names is known
-unit : (c : tie.Joined6 Inv-loop μ-loop Inv-records μ-records) → c .if6 .electricity ≡ sameBytes (field 6 (lineAt (linesAt (c .before .before .before .before .before .before .before .before .before .before .before .before .before .before .before .before .before .before .before .before .before .before .before .before .before .before .before)) 0)) (written "EL")
+unit : (c : tie.Joined6 Inv-loop μ-loop Inv-records μ-records) → c .if6 .electricity ≡ sameBytes (field 6 (lineAt (linesAt (c .before .before .before .before .before .before .before .before .before .before .before .before .before .before .before .before .before .before .before .before .before .before .before .before .before .before .before .before .before)) 0)) (written "EL")
 unit c =
     ⊎-elim
     (λ w. w .5 ∙ w .4 .ensures ∙ electric (done (c .before)) (known (c .before .before .before .before .before .before .before .before .before .before)) (c .before .before .before .before .before .field-count .ensures) (past (c .before))
     ∙ ap (λ (l : List ℕ). sameBytes (field 6 l) (written "EL")) (place (c .before .before .before .before .before .before .before .before .before .before .before .before .before .before .before) .same)
-    ∙ ap (λ (j : ℕ). sameBytes (field 6 (lineAt (linesAt (c .before .before .before .before .before .before .before .before .before .before .before .before .before .before .before .before .before .before .before .before .before .before .before .before .before .before .before)) j)) (written "EL")) (w .0 .taken))
+    ∙ ap (λ (j : ℕ). sameBytes (field 6 (lineAt (linesAt (c .before .before .before .before .before .before .before .before .before .before .before .before .before .before .before .before .before .before .before .before .before .before .before .before .before .before .before .before .before)) j)) (written "EL")) (w .0 .taken))
     (λ w. w .1 ∙ c .before .before .before .before .before .before .before .before .before .before .before .before .before .before .before .before .before .records .inv .1 .unit (omega (arith, w .0 .left)))
     (c .if6 .came)
 
@@ -231,7 +231,7 @@ is-electric-requires c κs = record-placed (done (c .before .before .before .bef
 
 store-line-requires : tie.Need-store-line-requires Inv-loop μ-loop Inv-records μ-records
 store-line-requires c κs =
-    let start = c .before .before .before .before .before .before .before .before .before .before .before .before .before .before .before .before .before .before .before .before .before .before .before .before .before .before .before .before .before .before .before .before .before in
+    let start = c .before .before .before .before .before .before .before .before .before .before .before .before .before .before .before .before .before .before .before .before .before .before .before .before .before .before .before .before .before .before .before .before .before .before .before in
     let r = c .before .before .before .before .before .before .before .before .before .before .before .before .before .before .before .before .before .before .before .before .before .before .before .records in (
       (start .pre .1 .1 .3, c .before .before .before .before .before .before .before .before .before .loop .inv .2 .kept .size, known (c .before .before .before .before .before .before .before .before .before .before .before .before .before .before .before .before)),
       (
@@ -245,26 +245,26 @@ store-line-requires c κs =
     )
 
 with-line-requires : tie.Need-with-line-requires Inv-loop μ-loop Inv-records μ-records
-with-line-requires c κs = c .before .before .before .before .before .before .before .before .before .before .before .before .before .before .before .before .before .before .before .before .before .before .before .before .before .before .before .if1 .taken
+with-line-requires c κs = c .before .before .before .before .before .before .before .before .before .before .before .before .before .before .before .before .before .before .before .before .before .before .before .before .before .before .before .before .before .if1 .taken
 
 records-less : tie.Need-records-less Inv-loop μ-loop Inv-records μ-records
-records-less c = omega (arith, c .before .before .before .before .before .before .before .before .before .before .before .before .before .before .before .before .before .before .before .before .before .before .before .before .before .before .before .before .if1 .taken, c .with-line .ensures .stopped)
+records-less c = omega (arith, c .before .before .before .before .before .before .before .before .before .before .before .before .before .before .before .before .before .before .before .before .before .before .before .before .before .before .before .before .before .before .if1 .taken, c .with-line .ensures .stopped)
 
 records-again : tie.Need-records-again Inv-loop μ-loop Inv-records μ-records
 records-again c =
-    let start = c .before .before .before .before .before .before .before .before .before .before .before .before .before .before .before .before .before .before .before .before .before .before .before .before .before .before .before .before .before .before .before .before .before .before .before .before .before .before .before .before in
-    let r = c .before .before .before .before .before .before .before .before .before .before .before .before .before .before .before .before .before .before .before .before .before .before .before .before .before .before .before .before .before .before .records in
+    let start = c .before .before .before .before .before .before .before .before .before .before .before .before .before .before .before .before .before .before .before .before .before .before .before .before .before .before .before .before .before .before .before .before .before .before .before .before .before .before .before .before .before .before .before .before in
+    let r = c .before .before .before .before .before .before .before .before .before .before .before .before .before .before .before .before .before .before .before .before .before .before .before .before .before .before .before .before .before .before .before .before .records in
     let next = c .with-line .ensures in
-    let inside : r .read .stopped < start .args .n = c .before .before .before .before .before .before .before .before .before .before .before .before .before .before .before .before .before .before .before .before .before .before .before .before .before .before .before .before .if1 .taken in (
+    let inside : r .read .stopped < start .args .n = c .before .before .before .before .before .before .before .before .before .before .before .before .before .before .before .before .before .before .before .before .before .before .before .before .before .before .before .before .before .before .if1 .taken in (
       omega (arith, inside, next .stopped),
-      lines-more _ _ (r .inv .1) inside (line (c .before .before .before .before .before .before .before .before .before .before .before .before .before .before)) (unit (c .before .before .before .before .before .before .before .before .before .before .before .before .before)) (c .before .before .before .before .before .before .before .before .before .before .before .codes-stand .ensures) next,
-      rw (next .stopped) (line-stored (r .inv .2) (omega (arith, inside, start .pre .0 .0 .count)) (omega (arith, inside, start .pre .1 .0 .0 .few)) (start .pre .1 .0 .0 .usages-length) (line (c .before .before .before .before .before .before .before .before .before .before .before .before .before .before)) (c .before .before .before .before .before .before .store-line .ensures .0) (c .before .before .before .before .before .before .store-line .ensures .1 .0) (c .before .before .before .before .before .before .store-line .ensures .1 .1)),
-      c .before .before .before .before .before .before .before .before .before .before .before .before .before .before .before .before .loop .inv .2 .kept,
+      lines-more _ _ (r .inv .1) inside (line (c .before .before .before .before .before .before .before .before .before .before .before .before .before .before .before .before)) (unit (c .before .before .before .before .before .before .before .before .before .before .before .before .before .before .before)) (c .before .before .before .before .before .before .before .before .before .before .before .before .before .codes-stand .ensures) next,
+      rw (next .stopped) (line-stored (r .inv .2) (omega (arith, inside, start .pre .1 .0 .0 .few)) (start .pre .1 .0 .0 .usages-length) (line (c .before .before .before .before .before .before .before .before .before .before .before .before .before .before .before .before)) (c .before .before .before .before .before .before .before .before .store-line .ensures .0) (c .before .before .before .before .before .before .before .before .store-line .ensures .1 .0) (c .before .before .before .before .before .before .before .before .store-line .ensures .1 .1)),
+      c .before .before .before .before .before .before .before .before .before .before .before .before .before .before .before .before .before .before .loop .inv .2 .kept,
     )
 
 -- the words keep their number
-wide : (c : tie.At-records Inv-loop μ-loop Inv-records μ-records) → length (c .records .words) ≡ length (now (c .before .before .before .before .before .before .before .before .before .before .args .words))
-wide c = c .records .inv .2 .numbers .size ∙ sym (c .before .before .before .before .before .before .before .before .before .before .pre .1 .0 .0 .words-length)
+wide : (c : tie.At-records Inv-loop μ-loop Inv-records μ-records) → length (c .records .words) ≡ length (now (c .before .before .before .before .before .before .before .before .before .before .before .before .args .words))
+wide c = c .records .inv .2 .numbers .size ∙ sym (c .before .before .before .before .before .before .before .before .before .before .before .before .pre .1 .0 .0 .words-length)
 
 same-length : tie.Need-same-length Inv-loop μ-loop Inv-records μ-records
 same-length c = wide (c .before .before)
@@ -272,14 +272,14 @@ same-length c = wide (c .before .before)
 returns : tie.Need-returns Inv-loop μ-loop Inv-records μ-records
 unfolding firstUnread
 returns c =
-    let start = c .before .before .before .before .before .before .before .before .before .before .before .before in
+    let start = c .before .before .before .before .before .before .before .before .before .before .before .before .before .before in
     let r = c .before .before .records in
     let lines = linesAt start in
     let end : r .read .stopped ≡ start .args .n = omega (arith, r .inv .0, c .if1 .left) in (
       first-none unread lines (r .read .stopped) (r .inv .1 .passing) (end ∙ start .pre .0 .0 .count),
       (
         λ all. lines-end lines (start .args .n) (r .inv .1) end (start .pre .0 .0 .count) (start .pre .0 .1),
-        λ all. reading-end (r .inv .2) all (omega (arith, end, start .pre .1 .0 .0 .few)),
+        λ all. reading-end (r .inv .2) all (omega (arith, end, start .pre .1 .0 .0 .few)) (start .pre .1 .0 .0 .usages-length),
       ),
     )
 
@@ -314,12 +314,12 @@ returns-4 : tie.Need-returns-4 Inv-loop μ-loop Inv-records μ-records
 returns-4 c =
     let p = c .before .before .before .before .before .before .loop in
     let type = c .before .before .before .before .before .before .before .before .before .before .before .before .before .before .read-head .result .record_type in
-    let a = c .before .before .before .before .before .before .before .before .before .before .before .before .before .before .before .before .before .before .before .before .before .before .before .before .before .before .before .before .before .before .args in
+    let a = c .before .before .before .before .before .before .before .before .before .before .before .before .before .before .before .before .before .before .before .before .before .before .before .before .before .before .before .before .before .before .before .before .args in
     let small : p .k < 19 = omega (arith, few (c .before .before .before .before .before .before .before .before), c .before .before .before .before .before .loop-test .taken) in
     fails (c .before .before .before .before .before .before .before .before .before .before .before .before .before .before .before .before .before .before)
     (unread-field _ type (head (c .before .before .before .before .before .before .before .before .before .before .before .before .before) .type) (p .k) (field-there (p .inv .2 .read) (low (c .before .before .before .before)) (place (c .before .before .before .before .before .before .before .before .before .before .before .before .before .before .before .before .before .before) .high))
     (ap (λ (l : List ℕ). fitsType (fieldType type (p .k)) l) (field-is (p .inv .2 .read) (low (c .before .before .before .before)) (place (c .before .before .before .before .before .before .before .before .before .before .before .before .before .before .before .before .before .before) .high))
-    ∙ subst (λ (t : FieldType). fitsType t (leadingField (part (now (a .file)) (p .a) (getD (now (a .ends)) (c .before .before .before .before .before .before .before .before .before .before .before .before .before .before .before .before .before .before .before .before .records .read .stopped) 0))) ≡ false) (code-type type (p .k) (known (c .before .before .before .before .before .before .before .before .before .before .before .before .before)) small (c .before .before .before .before .before .before .before .before .before .before .before .before .before .before .before .before .before .before .before .before .before .before .before .before .before .before .before .before .before .before .pre .1 .1 .1)) (c .before .read-field .ensures .1 (not-true _ (c .if4 .taken)))))
+    ∙ subst (λ (t : FieldType). fitsType t (leadingField (part (now (a .file)) (p .a) (getD (now (a .ends)) (c .before .before .before .before .before .before .before .before .before .before .before .before .before .before .before .before .before .before .before .before .records .read .stopped) 0))) ≡ false) (code-type type (p .k) (known (c .before .before .before .before .before .before .before .before .before .before .before .before .before)) small (c .before .before .before .before .before .before .before .before .before .before .before .before .before .before .before .before .before .before .before .before .before .before .before .before .before .before .before .before .before .before .before .before .pre .1 .1 .1)) (c .before .read-field .ensures .1 (not-true _ (c .if4 .taken)))))
 
 same-length-13 : tie.Need-same-length-13 Inv-loop μ-loop Inv-records μ-records
 same-length-13 c = wide (c .before .before .before .before .before .before .before .before .before .before .before .before .before .before .before .before)

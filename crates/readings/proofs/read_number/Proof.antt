@@ -1,6 +1,6 @@
 -- `readings::read_number` meets its contract: an empty field, or an amount after its minus, where it has one.
 -- Assumes nothing.
-use mathlib.Core.Path.{_≡_, sym, _∙_}
+use mathlib.Core.Path.{_≡_, sym, _∙_, ap}
 use mathlib.Core.Logic.{⊎-elim}
 use mathlib.Core.Bool.{cond}
 use Prim.Native.Nat.{ℕ, _-_, _≤_, zero-le}
@@ -11,6 +11,7 @@ use denote.Ref.{now}
 use Rattle.lists.specs.First.{isByte}
 use Rattle.lists.proofs.First.{first-le}
 use Rattle.lists.proofs.Parts.{part-rest}
+use Rattle.amounts.specs.InsideSaid.{saidBy}
 use Rattle.fields.specs.declared.FieldType.the-variants.{Number}
 use Rattle.readings.specs.InsideAmountReadings.{MagnitudeRead, MagnitudeTold}
 use Rattle.readings.proofs.Fields.{empty-read}
@@ -78,11 +79,8 @@ add-reads c =
     let rest = drop (p .if3 .minus) (now (p .before .before .before .before .before .args .s)) in
     omega (arith, size-read c .ends, first-le (isByte 44) rest, length-drop (p .if3 .minus) (now (p .before .before .before .before .before .args .s)), minus-inside p)
 
-mul-reads : tie.Need-mul-reads
-mul-reads c = omega (arith, size-read c .small)
-
-add-reads-2 : tie.Need-add-reads-2
-add-reads-2 c = omega (arith, size-read (c .before) .small, minus-inside (c .before .before .before .before .before) .0)
+saying-requires : tie.Need-saying-requires
+saying-requires c κs = size-read c .small
 
 returns-4 : tie.Need-returns-4
 returns-4 c =
@@ -90,7 +88,8 @@ returns-4 c =
     let a = p .before .before .before .before .before .args in (
       λ e.
           number-read (a .precision) (a .scale) (now (a .s)) (other (p .before .before)) (p .if3 .minus) (minus-is p) (c .before .before .before .read-magnitude .result)
-          (c .reads2 .result) (omega arith) (size-read (c .before .before)) (c .reads2 .ensures .1) (c .reads2 .ensures .2),
+          (c .reads2 .result) (size-read (c .before .before)) (c .reads2 .ensures .1) (omega arith)
+          (ap saidBy (c .reads2 .ensures .2) ∙ rw (p .before .before .before .next-byte .ensures) at (c .before .saying .ensures)),
       λ e. let z : _≡_ {A = ℕ} 0 1 = cc in absurd (omega arith),
     )
 
@@ -111,7 +110,6 @@ read-number-spec =
     (λ c κs. search needs)
     returns-3
     add-reads
-    mul-reads
-    add-reads-2
+    saying-requires
     (λ c κs. search needs)
     returns-4)
