@@ -1,6 +1,7 @@
 -- Test 5, field by field: a flag says whether the fields that are read are filled as they must be.
 --     filled-more        one field more
 --     mark-field         whether a field after the first three is filled, by the mark that is lent and its length
+--     flag-empty, flag-some    what becomes of the flag there
 --     head-filled        the first three fields, by the lengths of two
 --     filled-line        all fields
 -- Assumes nothing.
@@ -9,7 +10,7 @@ use mathlib.Core.List.{List}
 use mathlib.Core.Bool.{Bool, true, false, cond, not, _&&_, and-true, and-false, and-comm}
 use Prim.Native.Nat.{ℕ, _+_, _*_, _≤_, _<_}
 use native.Mathlib.Omega.{arith}
-use borrow.Author.Tests.{eqb-true, ne-eqb}
+use borrow.Author.Tests.{eqb-true, eq-eqb, ne-eqb}
 use lib.Dec.{eqb}
 use lib.ListN.{length, getD}
 use Rattle.lists.specs.Below.{someBelow}
@@ -48,6 +49,14 @@ module _ (type : ℕ) (line : List ℕ) where
   mark-field {marks} lent known k {len} past small q =
       let mark : getD marks (type * 19 + k) false ≡ isMandatory type k = rw lent (joined-at 19 markRows marks-long type k false known small ∙ row-mark type k known small) in
       plain-field k (λ e. omega (arith, e)) q ∙ rw mark (and-comm (isMandatory type k) (eqb len 0))
+
+-- what becomes of the flag at a field with a mark and a length: a marked field must not be empty
+module _ (filled mark : Bool) (len : ℕ) {after : Bool} where
+  pub flag-empty : len ≡ 0 → after ≡ (filled && not mark) → after ≡ (filled && not (eqb len 0 && mark))
+  flag-empty none e = e ∙ sym (rw (eq-eqb len 0 none))
+
+  pub flag-some : (len ≡ 0 → ⊥) → after ≡ filled → after ≡ (filled && not (eqb len 0 && mark))
+  flag-some some e = e ∙ sym (rw (ne-eqb len 0 some) (and-true filled))
 
 -- ---- the first three fields
 HeadMarked : ℕ → Type 0

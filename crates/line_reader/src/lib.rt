@@ -1,7 +1,7 @@
 // The reader: each line of a file is read once, and each field of it once, as its end is found. It answers the first line that fails test 2 or 3;
 // where none does, the first lines that fail 5 and 7, what the header and the trailer say, and the columns.
 ghost use mathlib.Core.Path.{_≡_};
-ghost use mathlib.Core.Bool.{true, false, not, _&&_};
+ghost use mathlib.Core.Bool.{true, false, cond};
 ghost use Prim.Native.Nat.{ℕ, _≤_, _<_};
 ghost use lib.Dec.{eqb};
 ghost use lib.ListN.{length, set, replicate};
@@ -149,18 +149,6 @@ fn place_three(places: &mut [usize; 24], first: usize, second: usize, third: usi
     places[2] = third;
 }
 
-// Whether a line's fields are filled as they must be, with one field more, of this length: a marked field must not be empty.
-fn still_filled(filled: bool, len: usize, marked: bool) -> bool
-    ensures { λ r. ⌜ r ≡ filled && not (eqb len 0 && marked) ⌝ }
-{
-    if len == 0 {
-        if marked {
-            return false;
-        }
-    }
-    filled
-}
-
 // What is kept before the first of n lines is read.
 fn none_read(n: usize) -> LinesRead
     ensures { λ r. ⌜ (r .stopped ≡ 0) × (r .unfilled ≡ n) × (r .miscoded ≡ n) × (r .retailer ≡ 0) × (r .sender ≡ 0) × (r .counted ≡ 0) ⌝ }
@@ -175,22 +163,30 @@ fn none_read(n: usize) -> LinesRead
     }
 }
 
+// What the first line says: it is line i, or was read before.
+fn of_first(i: usize, said: u64, before: u64) -> u64
+    ensures { λ r. ⌜ r ≡ cond (eqb i 0) said before ⌝ }
+{
+    if i == 0 {
+        return said;
+    }
+    before
+}
+
 // What is kept of the lines with one more, line read.stopped of n, by whether it is filled, whether its codes are right, and its fields' numbers.
 fn with_line(read: LinesRead, n: usize, filled: bool, coded: bool, numbers: &[u64; 24]) -> LinesRead
     requires { ⌜ read .stopped < n ⌝ }
     ensures { λ r. ⌜ LineKept read n filled coded (now (numbers .entry)) r ⌝ }
 {
     let i = read.stopped;
-    let mut next = read;
-    if i == 0 {
-        next.retailer = numbers[4];
-        next.sender = numbers[5];
+    LinesRead {
+        stopped: i + 1,
+        unfilled: lists::first_so_far(!filled, read.unfilled, n, i),
+        miscoded: lists::first_so_far(!coded, read.miscoded, n, i),
+        retailer: of_first(i, numbers[4], read.retailer),
+        sender: of_first(i, numbers[5], read.sender),
+        counted: numbers[4],
     }
-    next.stopped = i + 1;
-    next.unfilled = lists::first_so_far(!filled, read.unfilled, n, i);
-    next.miscoded = lists::first_so_far(!coded, read.miscoded, n, i);
-    next.counted = numbers[4];
-    next
 }
 
 // Reads the lines; read.stopped is the line that is read next. The calendar's table, the tables' codes and marks, and the columns' fields are lent.
@@ -246,7 +242,9 @@ fn read_lines_lent(
             if !fits {
                 break 'records;
             }
-            filled = still_filled(filled, len, marks[row + k]);
+            if len == 0 {
+                filled = filled & !marks[row + k];
+            }
             record.starts[k] = a;
             record.ends[k] = a + len;
             numbers[k + 1] = field.number;

@@ -31,7 +31,7 @@ use Rattle.line_reader.specs.InsideLineReader.{unread, firstUnread, Fill
 use Rattle.line_reader.proofs.Unread.{unread-count, unread-field, first-none}
 use Rattle.line_reader.proofs.Lines.{LinesTo, lines-none, lines-more, lines-end, stops, line-stored}
 use Rattle.line_reader.proofs.Heads.{count-least}
-use Rattle.line_reader.proofs.Filled.{filled-more, mark-field}
+use Rattle.line_reader.proofs.Filled.{filled-more, mark-field, flag-empty, flag-some}
 use Rattle.line_reader.proofs.Fields.{end-inside, rest-end, field-there, field-is, code-narrow, code-type}
 use Rattle.line_reader.proofs.FieldLoop.{Kept, FieldsTo, fields-start, fields-more, LineRead, fields-end, record-placed, electric}
 use Rattle.line_reader.proofs.read_lines_lent.Statement.{statement}
@@ -90,14 +90,17 @@ inside : (c : tie.Else4 Inv-loop μ-loop Inv-records μ-records) → c .before .
 inside c = omega (arith, read c .ends, end-inside (now (c .before .before .before .before .before .before .before .before .before .before .before .before .before .before .before .before .before .before .before .before .before .before .before .before .before .before .before .before .before .before .before .before .args .file)) (c .before .before .before .before .before .before .loop .a) (getD (now (c .before .before .before .before .before .before .before .before .before .before .before .before .before .before .before .before .before .before .before .before .before .before .before .before .before .before .before .before .before .before .before .before .args .ends)) (c .before .before .before .before .before .before .before .before .before .before .before .before .before .before .before .before .before .before .before .before .records .read .stopped) 0) (low (c .before .before .before .before)) (place (c .before .before .before .before .before .before .before .before .before .before .before .before .before .before .before .before .before .before) .high))
 
 -- whether the fields are filled, that field with them
-flag : (c : tie.After-still-filled Inv-loop μ-loop Inv-records μ-records) → let a = c .before .before .before .before .before .before .before .before .before .before .before .before .before .before .before .before .before .before .before .before .before .before .before .before .before .before .before .before .before .before .before .before .before .before .args in let i = c .before .before .before .before .before .before .before .before .before .before .before .before .before .before .before .before .before .before .before .before .before .before .records .read .stopped in
-    FilledTo (c .before .before .before .before .before .before .before .before .before .before .before .before .before .before .before .before .read-head .result .record_type) (part (now (a .file)) (getD (now (a .starts)) i 0) (getD (now (a .ends)) i 0)) (c .before .before .before .before .before .before .before .before .loop .k + 1) (c .still-filled .result)
+flag : (c : tie.Joined5 Inv-loop μ-loop Inv-records μ-records) → let a = c .before .before .before .before .before .before .before .before .before .before .before .before .before .before .before .before .before .before .before .before .before .before .before .before .before .before .before .before .before .before .before .before .before .args in let i = c .before .before .before .before .before .before .before .before .before .before .before .before .before .before .before .before .before .before .before .before .before .records .read .stopped in
+    FilledTo (c .before .before .before .before .before .before .before .before .before .before .before .before .before .before .before .read-head .result .record_type) (part (now (a .file)) (getD (now (a .starts)) i 0) (getD (now (a .ends)) i 0)) (c .before .before .before .before .before .before .before .loop .k + 1) (c .if5 .filled)
 flag c =
-    let p = c .before .before .before .before .before .before .before .before .loop in
-    let type = c .before .before .before .before .before .before .before .before .before .before .before .before .before .before .before .before .read-head .result .record_type in
-    let long = read (c .before .before) .ends ∙ sym (ap length (field-is (p .inv .2 .read) (low (c .before .before .before .before .before .before)) (place (c .before .before .before .before .before .before .before .before .before .before .before .before .before .before .before .before .before .before .before .before) .high)) ∙ field-length _) in
-    let asked = mark-field type _ (c .before .before .before .before .before .before .before .before .before .before .before .before .before .before .before .before .before .before .before .before .before .before .before .before .before .before .before .before .before .before .before .before .before .before .pre .1 .1 .2) (known (c .before .before .before .before .before .before .before .before .before .before .before .before .before .before .before)) (p .k) (p .inv .0) (omega (arith, few (c .before .before .before .before .before .before .before .before .before .before), c .before .before .before .before .before .before .before .loop-test .taken)) long in
-    filled-more type _ (p .k) (p .inv .2 .flag) asked (c .still-filled .ensures)
+    let p = c .before .before .before .before .before .before .before .loop in
+    let type = c .before .before .before .before .before .before .before .before .before .before .before .before .before .before .before .read-head .result .record_type in
+    let long = read (c .before) .ends ∙ sym (ap length (field-is (p .inv .2 .read) (low (c .before .before .before .before .before)) (place (c .before .before .before .before .before .before .before .before .before .before .before .before .before .before .before .before .before .before .before) .high)) ∙ field-length _) in
+    let mark = getD (now (c .before .before .before .before .before .before .before .before .before .before .before .before .before .before .before .before .before .before .before .before .before .before .before .before .before .before .before .before .before .before .before .before .before .args .marks)) (type * 19 + p .k) false in
+    let len = c .before .before .read-field .result .len in
+    let asked = mark-field type _ (c .before .before .before .before .before .before .before .before .before .before .before .before .before .before .before .before .before .before .before .before .before .before .before .before .before .before .before .before .before .before .before .before .before .pre .1 .1 .2) (known (c .before .before .before .before .before .before .before .before .before .before .before .before .before .before)) (p .k) (p .inv .0) (omega (arith, few (c .before .before .before .before .before .before .before .before .before), c .before .before .before .before .before .before .loop-test .taken)) long in
+    filled-more type _ (p .k) (p .inv .2 .flag) asked
+    (⊎-elim (λ w. flag-empty (p .filled) mark len (w .0 .taken) (w .2)) (λ w. flag-some (p .filled) mark len (w .0 .left) (w .1)) (c .if5 .came))
 
 records-holds : tie.Need-records-holds Inv-loop μ-loop Inv-records μ-records
 records-holds c = (
@@ -154,51 +157,51 @@ part-read-field-end c = place (c .before .before .before .before .before .before
 read-field-requires : tie.Need-read-field-requires Inv-loop μ-loop Inv-records μ-records
 read-field-requires c κs = (c .before .before .before .before .before .before .before .before .before .before .before .before .before .before .before .before .before .before .before .before .before .before .before .before .before .before .before .before .before .before .pre .1 .1 .0, code-narrow (c .before .before .before .before .before .before .before .before .before .before .before .before .read-head .result .record_type) (c .before .before .before .before .loop .k) (known (c .before .before .before .before .before .before .before .before .before .before .before)) (omega (arith, few (c .before .before .before .before .before .before))) (c .before .before .before .before .before .before .before .before .before .before .before .before .before .before .before .before .before .before .before .before .before .before .before .before .before .before .before .before .before .before .pre .1 .1 .1))
 
-add-still-filled : tie.Need-add-still-filled Inv-loop μ-loop Inv-records μ-records
-add-still-filled c = omega (arith, known (c .before .before .before .before .before .before .before .before .before .before .before .before .before), few (c .before .before .before .before .before .before .before .before))
+add-filled : tie.Need-add-filled Inv-loop μ-loop Inv-records μ-records
+add-filled c = omega (arith, known (c .before .before .before .before .before .before .before .before .before .before .before .before .before .before), few (c .before .before .before .before .before .before .before .before .before))
 
-shared-slice-read-still-filled :
-    tie.Need-shared-slice-read-still-filled Inv-loop μ-loop Inv-records μ-records
-shared-slice-read-still-filled c = let size : length (now (c .before .before .before .before .before .before .before .before .before .before .before .before .before .before .before .before .before .before .before .before .before .before .before .before .before .before .before .before .before .before .before .before .before .args .marks)) ≡ 171 = ap length (c .before .before .before .before .before .before .before .before .before .before .before .before .before .before .before .before .before .before .before .before .before .before .before .before .before .before .before .before .before .before .before .before .before .pre .1 .1 .2) ∙ refl in omega (arith, known (c .before .before .before .before .before .before .before .before .before .before .before .before .before .before), few (c .before .before .before .before .before .before .before .before .before), size)
+shared-slice-read-filled :
+    tie.Need-shared-slice-read-filled Inv-loop μ-loop Inv-records μ-records
+shared-slice-read-filled c = let size : length (now (c .before .before .before .before .before .before .before .before .before .before .before .before .before .before .before .before .before .before .before .before .before .before .before .before .before .before .before .before .before .before .before .before .before .before .args .marks)) ≡ 171 = ap length (c .before .before .before .before .before .before .before .before .before .before .before .before .before .before .before .before .before .before .before .before .before .before .before .before .before .before .before .before .before .before .before .before .before .before .pre .1 .1 .2) ∙ refl in omega (arith, known (c .before .before .before .before .before .before .before .before .before .before .before .before .before .before .before), few (c .before .before .before .before .before .before .before .before .before .before), size)
 
 mul-record : tie.Need-mul-record Inv-loop μ-loop Inv-records μ-records
-mul-record c = omega (arith, few (c .before .before .before .before .before .before .before .before .before .before))
+mul-record c = omega (arith, few (c .before .before .before .before .before .before .before .before .before))
 
 element-write-record : tie.Need-element-write-record Inv-loop μ-loop Inv-records μ-records
-element-write-record c = omega (arith, few (c .before .before .before .before .before .before .before .before .before .before), c .before .before .before .before .before .before .before .before .loop .inv .2 .kept .starts)
+element-write-record c = omega (arith, few (c .before .before .before .before .before .before .before .before .before), c .before .before .before .before .before .before .before .loop .inv .2 .kept .starts)
 
 add-record : tie.Need-add-record Inv-loop μ-loop Inv-records μ-records
-add-record c = omega (arith, inside (c .before .before), place (c .before .before .before .before .before .before .before .before .before .before .before .before .before .before .before .before .before .before .before .before) .high, size (c .before .before .before .before .before .before .before .before .before .before .before .before .before .before .before .before .before .before .before .before))
+add-record c = omega (arith, inside (c .before), place (c .before .before .before .before .before .before .before .before .before .before .before .before .before .before .before .before .before .before .before) .high, size (c .before .before .before .before .before .before .before .before .before .before .before .before .before .before .before .before .before .before .before))
 
 mul-record-2 : tie.Need-mul-record-2 Inv-loop μ-loop Inv-records μ-records
-mul-record-2 c = omega (arith, few (c .before .before .before .before .before .before .before .before .before .before))
+mul-record-2 c = omega (arith, few (c .before .before .before .before .before .before .before .before .before))
 
 element-write-record-2 : tie.Need-element-write-record-2 Inv-loop μ-loop Inv-records μ-records
-element-write-record-2 c = omega (arith, few (c .before .before .before .before .before .before .before .before .before .before), c .before .before .before .before .before .before .before .before .loop .inv .2 .kept .ends)
+element-write-record-2 c = omega (arith, few (c .before .before .before .before .before .before .before .before .before), c .before .before .before .before .before .before .before .loop .inv .2 .kept .ends)
 
 mul-numbers : tie.Need-mul-numbers Inv-loop μ-loop Inv-records μ-records
-mul-numbers c = omega (arith, few (c .before .before .before .before .before .before .before .before .before .before))
+mul-numbers c = omega (arith, few (c .before .before .before .before .before .before .before .before .before))
 
 array-write-numbers : tie.Need-array-write-numbers Inv-loop μ-loop Inv-records μ-records
-array-write-numbers c = omega (arith, few (c .before .before .before .before .before .before .before .before .before .before), c .before .before .before .before .before .before .before .before .loop .inv .2 .kept .size)
+array-write-numbers c = omega (arith, few (c .before .before .before .before .before .before .before .before .before), c .before .before .before .before .before .before .before .loop .inv .2 .kept .size)
 
 add-a-2 : tie.Need-add-a-2 Inv-loop μ-loop Inv-records μ-records
-add-a-2 c = omega (arith, inside (c .before .before), place (c .before .before .before .before .before .before .before .before .before .before .before .before .before .before .before .before .before .before .before .before) .high, size (c .before .before .before .before .before .before .before .before .before .before .before .before .before .before .before .before .before .before .before .before))
+add-a-2 c = omega (arith, inside (c .before), place (c .before .before .before .before .before .before .before .before .before .before .before .before .before .before .before .before .before .before .before) .high, size (c .before .before .before .before .before .before .before .before .before .before .before .before .before .before .before .before .before .before .before))
 
 add-a-3 : tie.Need-add-a-3 Inv-loop μ-loop Inv-records μ-records
-add-a-3 c = omega (arith, inside (c .before .before), place (c .before .before .before .before .before .before .before .before .before .before .before .before .before .before .before .before .before .before .before .before) .high, size (c .before .before .before .before .before .before .before .before .before .before .before .before .before .before .before .before .before .before .before .before))
+add-a-3 c = omega (arith, inside (c .before), place (c .before .before .before .before .before .before .before .before .before .before .before .before .before .before .before .before .before .before .before) .high, size (c .before .before .before .before .before .before .before .before .before .before .before .before .before .before .before .before .before .before .before))
 
 loop-again : tie.Need-loop-again Inv-loop μ-loop Inv-records μ-records
 loop-again c =
-    let p = c .before .before .before .before .before .before .before .before .loop in
-    let small : p .k < 19 = omega (arith, few (c .before .before .before .before .before .before .before .before .before .before), c .before .before .before .before .before .before .before .loop-test .taken) in (
+    let p = c .before .before .before .before .before .before .before .loop in
+    let small : p .k < 19 = omega (arith, few (c .before .before .before .before .before .before .before .before .before), c .before .before .before .before .before .before .loop-test .taken) in (
       omega (arith, p .inv .0),
-      omega (arith, c .before .before .before .before .before .before .before .loop-test .taken),
-      fields-more (p .inv .2) (low (c .before .before .before .before .before .before)) (place (c .before .before .before .before .before .before .before .before .before .before .before .before .before .before .before .before .before .before .before .before) .high) small (code-type (c .before .before .before .before .before .before .before .before .before .before .before .before .before .before .before .before .read-head .result .record_type) (p .k) (known (c .before .before .before .before .before .before .before .before .before .before .before .before .before .before .before)) small (c .before .before .before .before .before .before .before .before .before .before .before .before .before .before .before .before .before .before .before .before .before .before .before .before .before .before .before .before .before .before .before .before .before .before .pre .1 .1 .1)) (read (c .before .before)) (flag (c)),
+      omega (arith, c .before .before .before .before .before .before .loop-test .taken),
+      fields-more (p .inv .2) (low (c .before .before .before .before .before)) (place (c .before .before .before .before .before .before .before .before .before .before .before .before .before .before .before .before .before .before .before) .high) small (code-type (c .before .before .before .before .before .before .before .before .before .before .before .before .before .before .before .read-head .result .record_type) (p .k) (known (c .before .before .before .before .before .before .before .before .before .before .before .before .before .before)) small (c .before .before .before .before .before .before .before .before .before .before .before .before .before .before .before .before .before .before .before .before .before .before .before .before .before .before .before .before .before .before .before .before .before .pre .1 .1 .1)) (read (c .before)) (flag (c)),
     )
 
 -- all fields are read
-done : (c : tie.Else5 Inv-loop μ-loop Inv-records μ-records) → let a = c .before .before .before .before .before .before .before .before .before .before .before .before .before .before .before .before .before .before .before .before .before .before .before .before .before .before .before .before .args in let i = c .before .before .before .before .before .before .before .before .before .before .before .before .before .before .before .before .records .read .stopped in let p = c .before .before .loop in
+done : (c : tie.Else6 Inv-loop μ-loop Inv-records μ-records) → let a = c .before .before .before .before .before .before .before .before .before .before .before .before .before .before .before .before .before .before .before .before .before .before .before .before .before .before .before .before .args in let i = c .before .before .before .before .before .before .before .before .before .before .before .before .before .before .before .before .records .read .stopped in let p = c .before .before .loop in
     FieldsTo (now (a .file)) (part (now (a .file)) (getD (now (a .starts)) i 0) (getD (now (a .ends)) i 0)) (c .before .before .before .before .before .before .before .before .before .before .read-head .result .record_type) (c .before .before .before .before .field-count .result) (p .a) (getD (now (a .ends)) i 0) (p .filled) (p .numbers) (p .«record» .starts) (p .«record» .ends)
 done c =
     let a = c .before .before .before .before .before .before .before .before .before .before .before .before .before .before .before .before .before .before .before .before .before .before .before .before .before .before .before .before .args in
@@ -207,24 +210,24 @@ done c =
     let all : p .k ≡ c .before .before .before .before .field-count .result = omega (arith, p .inv .1, c .before .loop-test .left) in
     subst (λ (k : ℕ). FieldsTo (now (a .file)) (part (now (a .file)) (getD (now (a .starts)) i 0) (getD (now (a .ends)) i 0)) (c .before .before .before .before .before .before .before .before .before .before .read-head .result .record_type) k (p .a) (getD (now (a .ends)) i 0) (p .filled) (p .numbers) (p .«record» .starts) (p .«record» .ends)) all (p .inv .2)
 
-past : (c : tie.Else5 Inv-loop μ-loop Inv-records μ-records) → getD (now (c .before .before .before .before .before .before .before .before .before .before .before .before .before .before .before .before .before .before .before .before .before .before .before .before .before .before .before .before .args .ends)) (c .before .before .before .before .before .before .before .before .before .before .before .before .before .before .before .before .records .read .stopped) 0 < c .before .before .loop .a
-past c = omega (arith, c .if5 .left)
+past : (c : tie.Else6 Inv-loop μ-loop Inv-records μ-records) → getD (now (c .before .before .before .before .before .before .before .before .before .before .before .before .before .before .before .before .before .before .before .before .before .before .before .before .before .before .before .before .args .ends)) (c .before .before .before .before .before .before .before .before .before .before .before .before .before .before .before .before .records .read .stopped) 0 < c .before .before .loop .a
+past c = omega (arith, c .if6 .left)
 
 -- so the line is
-line : (c : tie.Else5 Inv-loop μ-loop Inv-records μ-records) → LineRead (lineAt (linesAt (c .before .before .before .before .before .before .before .before .before .before .before .before .before .before .before .before .before .before .before .before .before .before .before .before .before .before .before .before)) (c .before .before .before .before .before .before .before .before .before .before .before .before .before .before .before .before .records .read .stopped)) (c .before .before .before .before .before .before .before .before .before .before .read-head .result .record_type) (c .before .before .loop .filled) (c .before .before .loop .numbers)
+line : (c : tie.Else6 Inv-loop μ-loop Inv-records μ-records) → LineRead (lineAt (linesAt (c .before .before .before .before .before .before .before .before .before .before .before .before .before .before .before .before .before .before .before .before .before .before .before .before .before .before .before .before)) (c .before .before .before .before .before .before .before .before .before .before .before .before .before .before .before .before .records .read .stopped)) (c .before .before .before .before .before .before .before .before .before .before .read-head .result .record_type) (c .before .before .loop .filled) (c .before .before .loop .numbers)
 line c =
     subst (λ (l : List ℕ). LineRead l (c .before .before .before .before .before .before .before .before .before .before .read-head .result .record_type) (c .before .before .loop .filled) (c .before .before .loop .numbers)) (place (c .before .before .before .before .before .before .before .before .before .before .before .before .before .before) .same)
     (fields-end (done c) (known (c .before .before .before .before .before .before .before .before .before)) (c .before .before .before .before .field-count .ensures) (past c) (head (c .before .before .before .before .before .before .before .before .before) .type) (head (c .before .before .before .before .before .before .before .before .before) .printable))
 
 -- and the commodity that the first line names is known
-unit : (c : tie.Joined6 Inv-loop μ-loop Inv-records μ-records) → c .if6 .electricity ≡ sameBytes (field 6 (lineAt (linesAt (c .before .before .before .before .before .before .before .before .before .before .before .before .before .before .before .before .before .before .before .before .before .before .before .before .before .before .before .before .before)) 0)) (written "EL")
+unit : (c : tie.Joined7 Inv-loop μ-loop Inv-records μ-records) → c .if7 .electricity ≡ sameBytes (field 6 (lineAt (linesAt (c .before .before .before .before .before .before .before .before .before .before .before .before .before .before .before .before .before .before .before .before .before .before .before .before .before .before .before .before .before)) 0)) (written "EL")
 unit c =
     ⊎-elim
     (λ w. w .5 ∙ w .4 .ensures ∙ electric (done (c .before)) (known (c .before .before .before .before .before .before .before .before .before .before)) (c .before .before .before .before .before .field-count .ensures) (past (c .before))
     ∙ ap (λ (l : List ℕ). sameBytes (field 6 l) (written "EL")) (place (c .before .before .before .before .before .before .before .before .before .before .before .before .before .before .before) .same)
     ∙ ap (λ (j : ℕ). sameBytes (field 6 (lineAt (linesAt (c .before .before .before .before .before .before .before .before .before .before .before .before .before .before .before .before .before .before .before .before .before .before .before .before .before .before .before .before .before)) j)) (written "EL")) (w .0 .taken))
     (λ w. w .1 ∙ c .before .before .before .before .before .before .before .before .before .before .before .before .before .before .before .before .before .records .inv .1 .unit (omega (arith, w .0 .left)))
-    (c .if6 .came)
+    (c .if7 .came)
 
 is-electric-requires : tie.Need-is-electric-requires Inv-loop μ-loop Inv-records μ-records
 is-electric-requires c κs = record-placed (done (c .before .before .before .before)) (known (c .before .before .before .before .before .before .before .before .before .before .before .before .before)) (c .before .before .before .before .before .before .before .before .field-count .ensures) (past (c .before .before .before .before))
@@ -331,7 +334,7 @@ same-length-15 : tie.Need-same-length-15 Inv-loop μ-loop Inv-records μ-records
 same-length-15 c = c .before .before .before .before .before .before .before .before .before .before .before .before .before .before .before .before .records .inv .2 .usage .size
 
 returns-5 : tie.Need-returns-5 Inv-loop μ-loop Inv-records μ-records
-returns-5 c = fails (c .before .before .before .before .before .before .before .before .before .before .before .before .before .before) (unread-count _ (c .before .before .before .before .before .before .before .before .before .before .read-head .result .record_type) (head (c .before .before .before .before .before .before .before .before .before) .type) (λ z. omega (arith, z, field-there (c .before .before .loop .inv .2 .read) (omega (arith, c .if5 .taken)) (place (c .before .before .before .before .before .before .before .before .before .before .before .before .before .before) .high), c .before .loop-test .left, c .before .before .loop .inv .1, c .before .before .before .before .field-count .ensures)))
+returns-5 c = fails (c .before .before .before .before .before .before .before .before .before .before .before .before .before .before) (unread-count _ (c .before .before .before .before .before .before .before .before .before .before .read-head .result .record_type) (head (c .before .before .before .before .before .before .before .before .before) .type) (λ z. omega (arith, z, field-there (c .before .before .loop .inv .2 .read) (omega (arith, c .if6 .taken)) (place (c .before .before .before .before .before .before .before .before .before .before .before .before .before .before) .high), c .before .loop-test .left, c .before .before .loop .inv .1, c .before .before .before .before .field-count .ensures)))
 
 pub read-lines-lent-spec : {M : Type 1} → statement M
 read-lines-lent-spec =
@@ -363,9 +366,8 @@ read-lines-lent-spec =
     (λ c. search needs)
     part-read-field-end
     read-field-requires
-    add-still-filled
-    shared-slice-read-still-filled
-    (λ c κs. search needs)
+    add-filled
+    shared-slice-read-filled
     mul-record
     element-write-record
     add-record
