@@ -19,7 +19,7 @@
 /* The periods of a file of INTAKE_MOST_LINES lines: the others are FH, SH and FT. */
 #define PERIODS (INTAKE_MOST_LINES - 3)
 
-enum operation { CHECK, BOOK, TOTALS, FIND, DAY, CODE, OPERATIONS };
+enum operation { CHECK, BOOK, TOTALS, FIND, DAY, AMOUNT, CODE, OPERATIONS };
 
 /* A file: Record IDs are first, first + 1 and so on, times step. */
 struct shape {
@@ -135,6 +135,9 @@ static void *make_call(void *argument) {
     case DAY:
         call->number = intake_number(intake_day((const uint8_t *)"20991231", 8));
         break;
+    case AMOUNT:
+        call->number = intake_amount((const uint8_t *)"-12345678.25", 12, 11, 2).number;
+        break;
     default:
         call->number = intake_number(intake_code(40));
         break;
@@ -228,10 +231,11 @@ int main(int count, char **arguments) {
     size_t kib = count > 1 ? strtoul(arguments[1], NULL, 10) : INTAKE_STACK / 1024;
     struct tester tester = {.stack = make_stack(kib * 1024)};
     struct ledger empty = {0};
-    static const char *const names[OPERATIONS] = {"check", "book", "totals", "find", "day", "code"};
+    static const char *const names[OPERATIONS] = {"check", "book", "totals", "find", "day", "amount", "code"};
     try_files(&tester, 1);
     try_files(&tester, 4294967295);
     try_call(&tester, DAY, NULL, &empty, 0);
+    try_call(&tester, AMOUNT, NULL, &empty, 0);
     try_call(&tester, CODE, NULL, &empty, 0);
     for (int i = 0; i < OPERATIONS; i++) {
         printf("%s %zu\n", names[i], (tester.touched[i] + 1023) / 1024);

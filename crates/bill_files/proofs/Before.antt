@@ -7,42 +7,41 @@ use mathlib.Core.List.{List, [], _∷_, map}
 use Prim.Native.Nat.{ℕ, _-_}
 use lib.IntN.{pos}
 use lib.ListN.{length}
-use Rattle.lists.specs.Bytes.{sameBytes}
 use Rattle.lists.specs.Selections.{filter}
-use Rattle.lists.specs.Written.{written}
-use Rattle.digits.specs.Digits.{digitsOf}
-use Rattle.calendar.specs.Calendar.{dayOf}
-use Rattle.columns.specs.Columns.{fieldIn, site, reference, startDay, endDay, cancel}
+use Rattle.columns.specs.Columns.{site, reference, cancel}
 use Rattle.format.specs.Format.{lineAt}
 use Rattle.refusals.proofs.Before.{chargeBefore, usageBefore, charge-before, usage-before}
-use Rattle.bill_files.specs.Accepted.{Bill, BillFile, numberOrZero, numberOrNone, dayOrZero, senderIn, commodityIn, idIn, isPeriod, isBill, billIn, billsIn, billLines, billFile}
+use Rattle.bill_files.specs.Accepted.{Bill, BillFile, isPeriod, isBill, billIn, billsIn, billFile}
 
+-- a TH or OC as it was: its amounts by that reading, and all else as now
 abbrev pub billBefore : List ℕ → List ℕ → Bill
 billBefore header line =
+    let now = billIn header line in
     record {
-      sender = senderIn header;
-      commodity = commodityIn header;
-      fileId = idIn header;
-      kind = cond (isPeriod line) 2 3;
-      recordId = idIn line;
-      site = numberOrZero (digitsOf (fieldIn site line));
-      start = cond (isPeriod line) (dayOrZero (dayOf (fieldIn startDay line))) 0;
-      end = cond (isPeriod line) (dayOrZero (dayOf (fieldIn endDay line))) 0;
+      sender = now .sender;
+      commodity = now .commodity;
+      fileId = now .fileId;
+      kind = now .kind;
+      recordId = now .recordId;
+      site = now .site;
+      start = now .start;
+      end = now .end;
       charge = chargeBefore line;
       usage = cond (isPeriod line) (usageBefore line) (pos 0);
-      cancel = sameBytes (fieldIn cancel line) (written "Y");
-      reference = numberOrNone (digitsOf (fieldIn reference line));
+      cancel = now .cancel;
+      reference = now .reference;
     }
 
 abbrev pub fileBefore : List (List ℕ) → BillFile
 fileBefore lines =
+    let now = billFile lines in
     record {
-      sender = senderIn (lineAt lines 0);
-      commodity = commodityIn (lineAt lines 0);
-      recordId = idIn (lineAt lines 0);
+      sender = now .sender;
+      commodity = now .commodity;
+      recordId = now .recordId;
       total = chargeBefore (lineAt lines (length lines - 1));
       bills = map (billBefore (lineAt lines 0)) (filter isBill lines);
-      lines = billLines 0 lines;
+      lines = now .lines;
     }
 
 bill-before : (header line : List ℕ) → billIn header line ≡ billBefore header line
