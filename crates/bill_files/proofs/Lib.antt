@@ -4,5 +4,6 @@ pub mod FileIds
 pub mod Lines
 pub mod Passing
 pub mod Places
+pub mod References
 pub mod Sums
 pub mod Trailer

@@ -22,6 +22,8 @@ use Rattle.tables.proofs.RecordTypes.{parents-length}
 use Rattle.format.specs.Format.{lineAt, firstUnformatted, firstUnfit, firstMisplaced, firstUnfilled, firstMiscoded}
 use Rattle.lists.proofs.Reflected.{denied}
 use Rattle.format.specs.Meaning.{Ordered}
+use Rattle.format.specs.Conditional.{firstUnpopulated}
+use Rattle.format.proofs.Conditional.{test-6}
 use Rattle.format.proofs.Meaning.{test-2, test-3, test-4, test-5, test-7}
 use Rattle.identity.specs.Identity.{firstRepeated, firstUnlike}
 use Rattle.identity.proofs.Meaning.{distinct-ids, alike}
@@ -195,7 +197,7 @@ module _ (retailer : ℕ) (distributors : List ℕ) (lines : List (List ℕ)) wh
 
   -- none of tests 2 to 38 refuses a file exactly where it has what they ask
   pub tests-none : NoneOf (testRefusals retailer distributors lines) ↔ Passing retailer distributors lines
-  unfolding testRefusals columnRefusals totalRefusals formatRefusals orderRefusals identityRefusals headerRefusals periodRefusals siteRefusals periodTotalRefusals trailerRefusals childRefusals firstUnformatted firstMisplaced firstMiscoded firstRepeated firstUnlike firstReversed firstOverlapping
+  unfolding testRefusals columnRefusals totalRefusals formatRefusals orderRefusals identityRefusals headerRefusals periodRefusals siteRefusals periodTotalRefusals trailerRefusals childRefusals firstUnformatted firstMisplaced firstUnpopulated firstMiscoded firstRepeated firstUnlike firstReversed firstOverlapping
   tests-none =
       let n = length lines in
       let sized = types-length lines in
@@ -204,6 +206,7 @@ module _ (retailer : ℕ) (distributors : List ℕ) (lines : List (List ℕ)) wh
       let test3 = record-is n n (firstUnfit lines) (first-at-most _ _) refl (test-3 lines) in
       let test4 = record-is n (length (types lines)) (firstMisplaced (types lines)) (first-at-most _ _) sized Iff·rfl in
       let test5 = record-is n n (firstUnfilled lines) (first-at-most _ _) refl (test-5 lines) in
+      let test6 = record-is n n (firstUnpopulated lines) (first-at-most _ _) refl (test-6 lines) in
       let test7 = record-is n n (firstMiscoded lines) (first-at-most _ _) refl (test-7 lines) in
       let test9 = record-is n (length (numbers recordId lines)) (firstRepeated (numbers recordId lines)) (first-at-most _ _) (numbers-length recordId lines) (passes-9 lines) in
       let test10 =
@@ -236,6 +239,7 @@ module _ (retailer : ℕ) (distributors : List ℕ) (lines : List (List ℕ)) wh
               fitting = test3 .0 (at 3);
               ordered = misplaced-is lines some-line .0 (test4 .0 (at 4));
               filled = test5 .0 (at 5);
+              populated = test6 .0 (at 6);
               coded = test7 .0 (at 7);
               distinct = test9 .0 (at 9);
               parents = test10 .0 (at 10);
@@ -263,34 +267,37 @@ module _ (retailer : ℕ) (distributors : List ℕ) (lines : List (List ℕ)) wh
                 (
                   test5 .1 (p .filled),
                   (
-                    test7 .1 (p .coded),
+                    test6 .1 (p .populated),
                     (
-                      test9 .1 (p .distinct),
+                      test7 .1 (p .coded),
                       (
-                        test10 .1 (p .parents),
+                        test9 .1 (p .distinct),
                         (
-                          test11 .1 (p .ours),
+                          test10 .1 (p .parents),
                           (
-                            test12 .1 (p .listed),
+                            test11 .1 (p .ours),
                             (
-                              test14 .1 (p .in-order),
+                              test12 .1 (p .listed),
                               (
-                                test17 .1 (p .same-indicator),
+                                test14 .1 (p .in-order),
                                 (
-                                  test18 .1 (p .no-shared-day),
+                                  test17 .1 (p .same-indicator),
                                   (
-                                    test29 .1 (p .site-usage),
+                                    test18 .1 (p .no-shared-day),
                                     (
-                                      test30 .1 (p .site-charge),
+                                      test29 .1 (p .site-usage),
                                       (
-                                        test31 .1 (p .period-usage),
+                                        test30 .1 (p .site-charge),
                                         (
-                                          test32 .1 (p .period-charge),
+                                          test31 .1 (p .period-usage),
                                           (
-                                            test33 .1 (p .record-count),
+                                            test32 .1 (p .period-charge),
                                             (
-                                              test34 .1 (p .file-charge),
-                                              (test38 .1 (p .same-site), tt),
+                                              test33 .1 (p .record-count),
+                                              (
+                                                test34 .1 (p .file-charge),
+                                                (test38 .1 (p .same-site), tt),
+                                              ),
                                             ),
                                           ),
                                         ),

@@ -23,7 +23,8 @@ use Rattle.records.specs.Records.{field, typeIn}
 use Rattle.columns.specs.Columns.{fieldIn, chargeIn, usageIn, recordId, parentId, site, startDay, endDay, cancel}
 use Rattle.tables.specs.Groups.{parentPlace}
 use Rattle.format.specs.Format.{lineAt, unitOf}
-use Rattle.format.specs.Meaning.{Formatted, Fitting, Ordered, Filled, Coded}
+use Rattle.format.specs.Conditional.{periodBefore}
+use Rattle.format.specs.Meaning.{Formatted, Fitting, Ordered, Filled, Populated, Coded}
 use Rattle.headers.specs.Headers.{isValue}
 use Rattle.headers.specs.Meaning.{Listed}
 use Rattle.refusals.specs.Check.{types}
@@ -107,6 +108,8 @@ pub record Passing (retailer : ℕ) (distributors : List ℕ) (lines : List (Lis
   pub ordered : Ordered lines
   -- 5: "Mandatory fields are filled, but FH's Parent ID, called mandatory, must be empty."
   pub filled : (i : ℕ) → i < length lines → Filled (lineAt lines i)
+  -- 6: request 2: "It fails exactly where such a condition holds and the field is empty."
+  pub populated : (i : ℕ) → i < length lines → Populated (lineAt lines i) (periodBefore lines i)
   -- 7: "Commodity Code is EL or NG; Usage UOM is KWH for EL and GJ for NG; Cancel Indicator and GST exemption are Y or N. Other codes pass."
   pub coded : (i : ℕ) → i < length lines → Coded (unitOf (lineAt lines 0)) (lineAt lines i)
   -- 9: "no Record ID repeats in the file (the later line fails)."

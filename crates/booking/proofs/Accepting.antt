@@ -31,7 +31,7 @@ use Rattle.booking.specs.Booking.{firstCancel, hasFile, firstUnnamed, fi
 
 -- "Book. 104, 105 (ledger not sound), 103, 2 to 38, 8, 39, 40, 102, 101."
 pub book-order : (i : Input) → numbersOf (bookRefusals i)
-    ≡ 104 ∷ 105 ∷ 103 ∷ 2 ∷ 2 ∷ 3 ∷ 4 ∷ 5 ∷ 7 ∷ 9 ∷ 10 ∷ 11 ∷ 12 ∷ 14 ∷ 17 ∷ 18 ∷ 29 ∷ 30 ∷ 31 ∷ 32 ∷ 33 ∷ 34 ∷ 38 ∷ 8 ∷ 39 ∷ 40 ∷ 102 ∷ 101 ∷ []
+    ≡ 104 ∷ 105 ∷ 103 ∷ 2 ∷ 2 ∷ 3 ∷ 4 ∷ 5 ∷ 6 ∷ 7 ∷ 9 ∷ 10 ∷ 11 ∷ 12 ∷ 14 ∷ 17 ∷ 18 ∷ 29 ∷ 30 ∷ 31 ∷ 32 ∷ 33 ∷ 34 ∷ 38 ∷ 8 ∷ 39 ∷ 40 ∷ 102 ∷ 101 ∷ []
 unfolding bookRefusals openingRefusals ledgerRefusals testsTo12 testsFrom14 formatRefusals orderRefusals identityRefusals headerRefusals periodRefusals totalRefusals siteRefusals periodTotalRefusals trailerRefusals childRefusals
 book-order i = refl
 

@@ -1,4 +1,5 @@
--- Book as it was before request 1, when an empty amount was read as 0: its definition, with Check's tests and the file's bills of that time.
+-- Book as it was before request 1, when an empty amount was read as 0: its definition, with the file's bills and the sums in Check's tests of that time, and with
+-- the other tests as they are today.
 --     book-before    Book answers as before, and leaves the run and the used count as before
 -- Assumes nothing.
 use mathlib.Core.Path.{_≡_, _∙_, ap}

@@ -2,12 +2,13 @@
 --     unit-printable                     the unit of a commodity is a printable text
 --     same-fields, type-is, field-of, stands-at    a line whose fields are read: its record's fields, its type, and field k of it
 --     field-printable, text-number       a field is printable, and a short text's number is that of its bytes
+--     unit-is                            so the number of a commodity chooses the unit that its code does
 --     either-is                          a test on the number of a field is a test on its text
 --     codes-exact                        so the numbers of a line pass test 7 exactly where the line does
 -- Assumes nothing.
 use mathlib.Core.Path.{_≡_, refl, sym, _∙_, ap, subst}
 use mathlib.Core.List.{List, []}
-use mathlib.Core.Bool.{Bool, true, false, not, _&&_, _||_, Bool·not-not}
+use mathlib.Core.Bool.{Bool, true, false, cond, not, _&&_, _||_, Bool·not-not}
 use Prim.Native.Nat.{ℕ, zero, suc, _<_}
 use native.Mathlib.Numerals.{add-one}
 use native.Mathlib.Omega.{arith}
@@ -21,17 +22,20 @@ use Rattle.records.specs.Records.{recordFields, field, typeIn}
 use Rattle.records.proofs.Laws.{fields-few, field-at}
 use Rattle.tables.specs.Tables.{fieldCount, fieldType}
 use Rattle.tables.proofs.Laws.{count-most}
-use Rattle.format.specs.Format.{commodityFields, unitFields, cancelFields, exemptionFields, neither, miscoded}
+use Rattle.format.specs.Format.{commodityFields, unitFields, cancelFields, exemptionFields, neither, unitOf, miscoded}
 use Rattle.readings.specs.InsideLeadingBytes.{packed}
 use Rattle.codes_and_rows.specs.InsideFields.{FieldFits, fieldAfter, NumbersRead}
-use Rattle.codes_and_rows.specs.InsideNumbers.{isEither, codesStand, unitIf}
+use Rattle.codes_and_rows.specs.InsideNumbers.{isEither, codesStand, unitOfNumber}
 use Rattle.codes_and_rows.proofs.Texts.{Printable, printable-text, printable-field, packed-is}
 use Rattle.codes_and_rows.proofs.FieldKinds.{hasKind, kind-at, isShortText, says-text, commodity-kind, unit-kind, cancel-kind, exemption-kind}
 
-pub unit-printable : (electricity : Bool) → Printable (unitIf electricity)
-unfolding unitIf
-unit-printable true = printable-text (written "KWH") tt
-unit-printable false = printable-text (written "GJ") tt
+pub unit-printable : (commodity : ℕ) → Printable (unitOfNumber commodity)
+unfolding unitOfNumber
+unit-printable commodity = go (eqb commodity (packed (written "EL")))
+  where
+    go : (electricity : Bool) → Printable (cond electricity (written "KWH") (written "GJ"))
+    go true = printable-text (written "KWH") tt
+    go false = printable-text (written "GJ") tt
 
 -- neither of two, and none of four
 not-neither : (none same : Bool) → none || same ≡ not (not none && not same)
@@ -67,6 +71,11 @@ module _ {type : ℕ} {line numbers : List ℕ} (read : NumbersRead type line nu
     pub text-number : (j : ℕ) → T (hasKind isShortText type (suc j)) → getD numbers (suc j) 0 ≡ packed (field (suc j) line)
     text-number j t = let here = kind-at isShortText type j t in says-text _ _ (fieldType type j) (here .1) (stands-at j (here .0) .says)
 
+    -- the unit of the commodity that the sixth field names
+    pub unit-is : T (hasKind isShortText type 6) → unitOfNumber (getD numbers 6 0) ≡ unitOf line
+    unfolding unitOfNumber unitOf
+    unit-is kind = rw (text-number 5 kind, packed-is (field 6 line) (written "EL") (field-printable 5) (printable-text (written "EL") tt))
+
     pub either-is : (one two : List ℕ) → Printable one → Printable two → (k : ℕ) → T (hasKind isShortText type k)
         → isEither k numbers one two ≡ (eqb k 0 || (sameBytes (field k line) one || sameBytes (field k line) two))
     unfolding isEither
@@ -83,13 +92,13 @@ module _ {type : ℕ} {line numbers : List ℕ} (read : NumbersRead type line nu
           (either-is one two p q (getD table type 0) kind
           ∙ not-neither (eqb (getD table type 0) 0) (sameBytes (field (getD table type 0) line) one || sameBytes (field (getD table type 0) line) two))
 
-      pub codes-exact : (electricity : Bool) → codesStand (unitIf electricity) type numbers ≡ not (miscoded (unitIf electricity) line)
+      pub codes-exact : (commodity : ℕ) → codesStand (unitOfNumber commodity) type numbers ≡ not (miscoded (unitOfNumber commodity) line)
       unfolding codesStand miscoded
-      codes-exact electricity =
+      codes-exact commodity =
           rw (
             code-exact commodityFields (written "EL") (written "NG") (printable-text (written "EL") tt) (printable-text (written "NG") tt) (commodity-kind type known),
-            code-exact unitFields (unitIf electricity) (unitIf electricity) (unit-printable electricity) (unit-printable electricity) (unit-kind type known),
+            code-exact unitFields (unitOfNumber commodity) (unitOfNumber commodity) (unit-printable commodity) (unit-printable commodity) (unit-kind type known),
             code-exact cancelFields (written "Y") (written "N") (printable-text (written "Y") tt) (printable-text (written "N") tt) (cancel-kind type known),
             code-exact exemptionFields (written "Y") (written "N") (printable-text (written "Y") tt) (printable-text (written "N") tt) (exemption-kind type known),
           )
-          (not-any (neither commodityFields (written "EL") (written "NG") line) (neither unitFields (unitIf electricity) (unitIf electricity) line) (neither cancelFields (written "Y") (written "N") line) (neither exemptionFields (written "Y") (written "N") line))
+          (not-any (neither commodityFields (written "EL") (written "NG") line) (neither unitFields (unitOfNumber commodity) (unitOfNumber commodity) line) (neither cancelFields (written "Y") (written "N") line) (neither exemptionFields (written "Y") (written "N") line))

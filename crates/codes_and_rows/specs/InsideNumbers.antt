@@ -21,9 +21,9 @@ codesStand unit type numbers =
     && (isEither (getD unitFields type 0) numbers unit unit
     && (isEither (getD cancelFields type 0) numbers (written "Y") (written "N") && isEither (getD exemptionFields type 0) numbers (written "Y") (written "N")))
 
--- the unit of a commodity, electricity or gas
-unfoldable pub unitIf : Bool → List ℕ
-unitIf electricity = cond electricity (written "KWH") (written "GJ")
+-- the unit of a commodity, electricity or gas, by the number that its code says
+unfoldable pub unitOfNumber : ℕ → List ℕ
+unitOfNumber commodity = cond (eqb commodity (packed (written "EL"))) (written "KWH") (written "GJ")
 
 -- ---- what the columns hold of a record of a type, whose fields say the numbers: the number of a column's field, counted from 1
 abbrev pub fieldNumber : ℕ → List ℕ → ℕ → ℕ

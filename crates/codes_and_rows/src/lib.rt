@@ -8,7 +8,7 @@ ghost use Rattle.format.specs.Format.{commodityFields, unitFields, cancelFields
 ghost use Rattle.columns.specs.InsideColumns.{Room};
 ghost use Rattle.columns.specs.Columns.{charge, usage};
 ghost use Rattle.columns.specs.InsideRows.{columnFields, RowStored};
-ghost use Rattle.codes_and_rows.specs.InsideNumbers.{codesStand, unitIf, columnNumbers, fieldNumber};
+ghost use Rattle.codes_and_rows.specs.InsideNumbers.{codesStand, unitOfNumber, columnNumbers, fieldNumber};
 
 // The fields that have the codes of test 7, counted from 1: Commodity Code, Usage UOM, Cancel Indicator and GST Exemption Indicator.
 const FH_COMMODITY: usize = 6;
@@ -80,8 +80,8 @@ const YES: u64 = 89;
 const NO: u64 = 78;
 
 // Whether the number of field k is one of two; field 0, which there is not, passes.
-fn is_either(k: usize, numbers: &[u64], one: u64, two: u64) -> bool
-    requires { ⌜ k < length (now numbers) ⌝ }
+fn is_either(k: usize, numbers: &[u64; 24], one: u64, two: u64) -> bool
+    requires { ⌜ k < 24 ⌝ }
     ensures { λ r. ⌜ r ≡ (eqb k 0 || (eqb (getD (now (numbers .entry)) k 0) one || eqb (getD (now (numbers .entry)) k 0) two)) ⌝ }
 {
     if k == 0 {
@@ -93,12 +93,11 @@ fn is_either(k: usize, numbers: &[u64], one: u64, two: u64) -> bool
     numbers[k] == two
 }
 
-// Test 7 of a record of a type, by the numbers that its fields say: a text is its bytes to the base 256.
-pub fn codes_stand(record_type: u64, numbers: &[u64], electricity: bool) -> bool
-    requires { ⌜ length (now numbers) ≡ 24 ⌝ }
-    ensures { λ r. ⌜ r ≡ codesStand (unitIf electricity) record_type (now (numbers .entry)) ⌝ }
+// Test 7 of a record of a type, by the numbers that its fields and the commodity say: a text is its bytes to the base 256.
+pub fn codes_stand(record_type: u64, numbers: &[u64; 24], commodity: u64) -> bool
+    ensures { λ r. ⌜ r ≡ codesStand (unitOfNumber commodity) record_type (now (numbers .entry)) ⌝ }
 {
-    let unit: u64 = if electricity { KWH } else { GJ };
+    let unit: u64 = if commodity == EL { KWH } else { GJ };
     if !is_either(commodity_field(record_type), numbers, EL, NG) {
         return false;
     }

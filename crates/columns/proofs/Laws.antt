@@ -3,7 +3,6 @@
 --     number-none                      and 0 says that the field has none
 --     number-small                     a number that is read has at most 15 digits
 --     charge-bound, usage-bound        and so have the amounts of a line, as they count
---     usages-length                                   a column has one for each line
 --     column-at, charge-at, usage-at                  which is that of the line at its place
 -- Assumes nothing.
 use mathlib.Core.Path.{_≡_, refl, sym, _∙_, ap}
@@ -64,9 +63,6 @@ module _ {A : Type 0} (f : List ℕ → A) (lines : List (List ℕ)) (column : L
   in-line d i h = ap (λ (l : List A). getD l i d) same ∙ map-at f [] d lines i h
 
 module _ {lines : List (List ℕ)} {words chargeColumn usageColumn : List ℕ} (r : ColumnsRead lines words chargeColumn usageColumn) (n : ℕ) (e : n ≡ length lines) where
-  pub usages-length : length (take n usageColumn) ≡ n
-  usages-length = rw e (sym (length-map (take (length lines) usageColumn) saidBy) ∙ as-long usageIn lines _ (r .usages))
-
   module _ (i : ℕ) (h : i < n) where
     pub column-at : (column : ℕ) → column < 8 → getD (columnAt (length chargeColumn) column n words) i 0 ≡ numberIn column (getD lines i [])
     column-at column l = rw e (in-line (numberIn column) lines _ (r .numbers column l) 0 i (omega (arith, e)))

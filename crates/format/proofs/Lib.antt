@@ -1,3 +1,4 @@
 pub mod Blocks
+pub mod Conditional
 pub mod Meaning
 pub mod Some

@@ -1,2 +1,3 @@
+pub mod Conditional
 pub mod Format
 pub mod Meaning

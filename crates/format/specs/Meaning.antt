@@ -1,4 +1,4 @@
--- What tests 2, 3, 4, 5 and 7 ask for, in plain terms. `test-2` to `test-7` (proofs/Meaning) say that exactly these lines pass.
+-- What tests 2 to 7 ask for, in plain terms. `test-2` to `test-7` (proofs/Meaning, and proofs/Conditional for 6) say that exactly these lines pass.
 -- Assumes nothing.
 use Prim.Native.Nat.{ℕ, _+_, _-_, _≤_, _<_}
 use mathlib.Core.Path.{_≡_}
@@ -6,10 +6,13 @@ use mathlib.Core.Logic.{_⊎_}
 use mathlib.Core.Bool.{true}
 use mathlib.Core.List.{List, []}
 use lib.ListN.{length, getD}
+use lib.IntN.{pos}
 use Rattle.lists.specs.Written.{written}
+use Rattle.amounts.specs.declared.Amount.the-variants.{Value as Units}
+use Rattle.amounts.specs.Amounts.{amountOf}
 use Rattle.fields.specs.Fields.{fitsType}
 use Rattle.records.specs.Text.{fieldsOf}
-use Rattle.tables.specs.Types.{FH, FT, mayFollow}
+use Rattle.tables.specs.Types.{FH, TH, DU, DD, OC, FT, mayFollow}
 use Rattle.records.specs.Records.{recordFields, field, typeIn}
 use Rattle.tables.specs.Tables.{fieldCount, fieldType, isMandatory}
 use Rattle.format.specs.Format.{lineAt, commodityFields, unitFields, cancelFields, exemptionFields}
@@ -34,6 +37,24 @@ pub record Ordered (lines : List (List ℕ)) : Type 0 where
 pub record Filled (line : List ℕ) : Type 0 where
   pub filled : (k : ℕ) → k < length (recordFields line) → isMandatory (typeIn line) k ≡ true → ((typeIn line ≡ FH) × (k ≡ 1) → ⊥) → field (k + 1) line ≡ [] → ⊥
   pub parent : typeIn line ≡ FH → field 2 line ≡ []
+
+-- ---- 6: "It fails exactly where such a condition holds and the field is empty."
+-- no field of a line from `low` to `high` is empty
+abbrev pub AllFilled : ℕ → ℕ → List ℕ → Type 0
+AllFilled low high line = (k : ℕ) → low ≤ k → k ≤ high → field k line ≡ [] → ⊥
+
+-- of a line, and of the line of its TH
+pub record Populated (line period : List ℕ) : Type 0 where
+  -- Table 4-4, 8 and 9: "If Cancel Indicator = "Y" this field is mandatory"
+  pub cancelled-period : typeIn line ≡ TH → field 7 line ≡ written "Y" → AllFilled 8 9 line
+  -- Table 4-5, 9: "If Meter Type Code = "C" this field is mandatory."
+  pub meter : typeIn line ≡ DU → field 8 line ≡ written "C" → AllFilled 9 9 line
+  -- Table 4-5, 10 to 15: "If Site Status Code = "E" and Meter Type Code = "C" this field is mandatory."
+  pub readings : typeIn line ≡ DU → field 11 period ≡ written "E" → field 8 line ≡ written "C" → AllFilled 10 15 line
+  -- Table 4-6, 12 and 13: "If Demand Type Code = "Ratchet," "Transmission Ratchet," "Distribution Ratchet" or "Service Ratchet" this field is mandatory"
+  pub ratchet : typeIn line ≡ DD → (n : ℕ) → amountOf 4 0 (field 8 line) ≡ Units (pos n) → (n ≡ 4100) ⊎ ((n ≡ 4110) ⊎ ((n ≡ 4120) ⊎ (n ≡ 4200))) → AllFilled 12 13 line
+  -- Table 4-9, 7 and 8: "If Cancel Indicator = "Y" this field is mandatory"
+  pub cancelled-charge : typeIn line ≡ OC → field 6 line ≡ written "Y" → AllFilled 7 8 line
 
 -- ---- 7: where a list of fields gives a line's type a field, P holds of it
 abbrev pub Where : List ℕ → (List ℕ → Type 0) → List ℕ → Type 0

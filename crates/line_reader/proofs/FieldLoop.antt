@@ -2,9 +2,8 @@
 --     Kept                                   the lists for numbers and places
 --     FieldsTo, fields-start, fields-more    the first k fields are read: the first three; one field more
 --     LineRead, fields-end                   all are: what is known of the line
---     record-placed, electric                and of its record, which names the commodity
 -- Assumes nothing.
-use mathlib.Core.Path.{_≡_, sym, _∙_, ap, subst}
+use mathlib.Core.Path.{_≡_, sym, _∙_, ap}
 use mathlib.Core.List.{List}
 use mathlib.Core.Bool.{Bool, false, not}
 use Prim.Native.Nat.{ℕ, _+_, _≤_, _<_}
@@ -13,23 +12,17 @@ use native.Mathlib.Omega.{arith}
 use lib.ListN.{length, getD, set, length-set}
 use lib.Seq.{getD-set-other}
 use Rattle.lists.specs.Below.{someBelow}
-use Rattle.lists.specs.Bytes.{sameBytes}
-use Rattle.lists.specs.Written.{written}
 use Rattle.records.specs.Text.{fieldsOf}
-use Rattle.records.specs.InsidePlacedLines.{part, Placed}
-use Rattle.records.proofs.Placed.{all-placed}
+use Rattle.records.specs.InsidePlacedLines.{part}
 use Rattle.tables.specs.Types.{typeNamed}
 use Rattle.fields.specs.declared.FieldType.{FieldType}
 use Rattle.tables.specs.Tables.{fieldCount, fieldType}
 use Rattle.tables.proofs.Laws.{count-most}
-use Rattle.records.specs.Records.{recordFields, field, typeIn}
-use Rattle.records.specs.InsidePlacedFields.{fieldAmong, fieldsAt, FieldsPlaced}
-use Rattle.records.proofs.Laws.{among-is}
 use Rattle.format.specs.Format.{isPrintable, someField, unfilled}
 use Rattle.readings.specs.declared.Reading.{Reading}
 use Rattle.readings.specs.InsideReadings.{FieldRead}
 use Rattle.codes_and_rows.specs.InsideFields.{fieldAfter, NumbersRead}
-use Rattle.codes_and_rows.proofs.Texts.{Printable, printable-line}
+use Rattle.conditional_fields.specs.InsideRecords.{RecordRead}
 use Rattle.codes_and_rows.proofs.Codes.{same-fields, type-is, field-of}
 use Rattle.line_reader.specs.declared.Head.{Head}
 use Rattle.line_reader.specs.InsideLineReader.{unread, ReadTo, FilledTo, HeadRead}
@@ -79,11 +72,8 @@ fields-more {k = k} {numbers = numbers} f low high small {r = r} same read flag 
     }
 
 -- what is known of a line whose fields are all read
-pub record LineRead (line : List ℕ) (type : ℕ) (flag : Bool) (said : List ℕ) : Type 0 where
-  pub known : type < 9
-  pub named : typeIn line ≡ type
-  pub printable : Printable line
-  pub numbers : NumbersRead type line said
+pub record LineRead (file line : List ℕ) (type : ℕ) (flag : Bool) (numbers bs es : List ℕ) : Type 0 where
+  pub read : RecordRead file line type numbers bs es
   pub filled : flag ≡ not (someField unfilled line)
   pub passes : unread line ≡ false
 
@@ -95,25 +85,16 @@ module _ {file line : List ℕ} {type k a e : ℕ} {filled : Bool} {numbers bs e
   numbers-read : NumbersRead type line numbers
   numbers-read = record { none = f .kept .none; counted = counted; stands = λ j h. f .read .stands j (omega (arith, all)) }
 
-  pub fields-end : type ≡ typeNamed (fieldAfter line 2) → someBelow (λ (i : ℕ). not (isPrintable (getD line i 0))) (length line) ≡ false → LineRead line type filled numbers
+  pub fields-end : type ≡ typeNamed (fieldAfter line 2) → someBelow (λ (i : ℕ). not (isPrintable (getD line i 0))) (length line) ≡ false → LineRead file line type filled numbers bs es
   fields-end named printable =
       record {
-        known = known;
-        named = type-is numbers-read known named;
-        printable = printable-line line printable;
-        numbers = numbers-read;
+        read = record {
+          known = known;
+          named = type-is numbers-read known named;
+          printable = printable;
+          says = numbers-read;
+          placed = λ j h. f .read .placed j (omega (arith, all));
+        };
         filled = filled-line type line k (type-is numbers-read known named) (ap length (same-fields numbers-read known) ∙ counted ∙ sym all) (λ j. rw add-one (field-of numbers-read known j)) (f .flag);
         passes = read-line line type named known (omega (arith, count-most type known)) printable counted (λ j h. f .read .stands j (omega (arith, all)) .fits);
       }
-
-  -- the places of the fields are those of the record
-  same-places : Placed file k bs es (recordFields line)
-  same-places =
-      rw (same-fields numbers-read known)
-      (all-placed (omega (arith, f .kept .starts, all, count-most type known)) (omega (arith, f .kept .ends, all, count-most type known)) (all ∙ sym counted) (f .read .placed))
-
-  pub record-placed : FieldsPlaced file k bs es
-  record-placed = (omega (arith, all, count-most type known), subst (λ (fields : List (List ℕ)). Placed file k bs es fields) (sym (same-places .same)) same-places)
-
-  pub electric : sameBytes (fieldAmong (fieldsAt file k bs es) 6) (written "EL") ≡ sameBytes (field 6 line) (written "EL")
-  electric = ap (λ (f : List ℕ). sameBytes f (written "EL")) (ap (λ (fields : List (List ℕ)). fieldAmong fields 6) (same-places .same) ∙ among-is line 6)

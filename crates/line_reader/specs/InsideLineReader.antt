@@ -9,13 +9,18 @@ use lib.ListN.{length, drop, getD}
 use lib.Dec.{eqb, leb}
 use Rattle.lists.specs.Below.{firstBelow, someBelow}
 use Rattle.lists.specs.InsideFirstSoFar.{firstAfter}
+use Rattle.lists.specs.Written.{written}
 use Rattle.records.specs.Text.{cut, fieldsOf}
 use Rattle.records.specs.InsidePlacedLines.{part, At}
-use Rattle.tables.specs.Types.{FH, typeNamed}
+use Rattle.tables.specs.Types.{FH, TH, typeNamed}
 use Rattle.records.specs.Records.{field, typeIn}
 use Rattle.tables.specs.Tables.{isMandatory}
+use Rattle.columns.specs.InsideColumns.{ColumnsRead}
+use Rattle.readings.specs.InsideLeadingBytes.{packed}
+use Rattle.format.specs.Conditional.{firstUnpopulated}
 use Rattle.format.specs.Format.{isPrintable, lineAt, isEmpty, unformatted, someField, unfit, firstUnfilled, firstMiscoded}
 use Rattle.codes_and_rows.specs.InsideFields.{FieldFits, fieldAfter}
+use Rattle.codes_and_rows.specs.InsideNumbers.{codesStand, unitOfNumber}
 use Rattle.line_reader.specs.declared.Head.{Head}
 use Rattle.line_reader.specs.declared.LinesRead.{LinesRead}
 
@@ -74,20 +79,31 @@ pub record HeadRead (file line : List ℕ) (a e : ℕ) (r : Head) (numbers : Lis
   pub filled : FilledTo (r .record_type) line 3 (r .filled)
 
 -- ---- the file
--- what is kept of the lines, `read` before and r after line `read .stopped` of n, by the numbers of its fields
-pub record LineKept (read : LinesRead) (n : ℕ) (filled coded : Bool) (numbers : List ℕ) (r : LinesRead) : Type 0 where
+-- what is kept of the lines, `read` before and r after line `read .stopped` of n, a record of a type, by the numbers of its fields
+pub record LineKept (read : LinesRead) (n type : ℕ) (filled lacks : Bool) (numbers : List ℕ) (r : LinesRead) : Type 0 where
   pub stopped : r .stopped ≡ read .stopped + 1
   pub unfilled : r .unfilled ≡ firstAfter (not filled) (read .unfilled) n (read .stopped)
-  pub miscoded : r .miscoded ≡ firstAfter (not coded) (read .miscoded) n (read .stopped)
+  pub unpopulated : r .unpopulated ≡ firstAfter lacks (read .unpopulated) n (read .stopped)
+  pub miscoded : r .miscoded ≡ firstAfter (not (codesStand (unitOfNumber (r .commodity)) type numbers)) (read .miscoded) n (read .stopped)
   pub retailer : r .retailer ≡ cond (eqb (read .stopped) 0) (getD numbers 4 0) (read .retailer)
   pub sender : r .sender ≡ cond (eqb (read .stopped) 0) (getD numbers 5 0) (read .sender)
+  pub commodity : r .commodity ≡ cond (eqb (read .stopped) 0) (getD numbers 6 0) (read .commodity)
   pub counted : r .counted ≡ getD numbers 4 0
+  pub energized : r .energized ≡ cond (eqb type TH) (eqb (getD numbers 11 0) (packed (written "E"))) (read .energized)
 
--- what is answered of a file's lines where each passes tests 2 and 3: what tests 5 and 7 answer, and the numbers that say fields 4 and 5 of the first line
--- and field 4 of the last. Where the first line is FH and the last FT, these are the retailer, the sender and the record count.
+-- what is answered of a file's lines where each passes tests 2 and 3: what tests 5, 6 and 7 answer, and the numbers that say fields 4 and 5 of the first line
+-- and field 4 of the last. Where the first line is FH and the last FT, these are the retailer, the sender and the record count. Test 7 reads the commodity, which
+-- the first line names where it is FH.
 pub record AllRead (lines : List (List ℕ)) (r : LinesRead) : Type 0 where
   pub unfilled : r .unfilled ≡ firstUnfilled lines
-  pub miscoded : r .miscoded ≡ firstMiscoded lines
+  pub unpopulated : r .unpopulated ≡ firstUnpopulated lines
+  pub miscoded : typeIn (lineAt lines 0) ≡ FH → r .miscoded ≡ firstMiscoded lines
   pub retailer : FieldFits (typeIn (lineAt lines 0)) 3 (field 4 (lineAt lines 0)) (r .retailer)
   pub sender : FieldFits (typeIn (lineAt lines 0)) 4 (field 5 (lineAt lines 0)) (r .sender)
   pub counted : FieldFits (typeIn (lineAt lines (length lines - 1))) 3 (field 4 (lineAt lines (length lines - 1))) (r .counted)
+
+-- what the reader answers of a file's lines, and leaves in the columns
+pub record LinesTold (lines : List (List ℕ)) (words charges usages : List ℕ) (r : LinesRead) : Type 0 where
+  pub stopped : r .stopped ≡ firstUnread lines
+  pub all : r .stopped ≡ length lines → AllRead lines r
+  pub columns : r .stopped ≡ length lines → ColumnsRead lines words charges usages

@@ -1,34 +1,33 @@
 // The reader: each line of a file is read once, and each field of it once, as its end is found. It answers the first line that fails test 2 or 3;
-// where none does, the first lines that fail 5 and 7, what the header and the trailer say, and the columns.
+// where none does, the first lines that fail 5, 6 and 7, what the header and the trailer say, and the columns.
 ghost use mathlib.Core.Path.{_≡_};
 ghost use mathlib.Core.Bool.{true, false, cond};
 ghost use Prim.Native.Nat.{ℕ, _≤_, _<_};
 ghost use lib.Dec.{eqb};
 ghost use lib.ListN.{length, set, replicate};
-ghost use Rattle.lists.specs.Bytes.{sameBytes};
 ghost use Rattle.lists.specs.Written.{written};
-ghost use Rattle.calendar.specs.InsideFirstDays.{firstDays};
 ghost use Rattle.records.specs.Text.{linesOf};
 ghost use Rattle.records.specs.InsidePlacedLines.{part, Placed};
-ghost use Rattle.columns.specs.InsideColumns.{Room, ColumnsRead};
-ghost use Rattle.columns.specs.InsideRows.{columnFields};
-ghost use Rattle.tables.specs.Tables.{markRows};
-ghost use Rattle.tables.specs.InsideRows.{joined};
-ghost use Rattle.tables.specs.InsideCodes.{codeRows};
-ghost use Rattle.records.specs.InsidePlacedFields.{fieldAmong, fieldsAt, FieldsPlaced};
+ghost use Rattle.columns.specs.InsideColumns.{Room};
+ghost use Rattle.tables.specs.Types.{TH};
+ghost use Rattle.readings.specs.InsideLeadingBytes.{packed};
 ghost use Rattle.format.specs.Format.{lineAt, unformatted, firstUnformatted};
-ghost use Rattle.line_reader.specs.InsideLineReader.{unread, firstUnread, headFilled, LineLent, HeadRead, LineKept, AllRead};
+ghost use Rattle.line_reader.specs.InsideLineReader.{unread, headFilled, LineLent, HeadRead, LineKept, LinesTold};
+use conditional_fields::is_unpopulated;
 use records::Record;
 
 // What is answered of a file's lines: the line at which the reader stopped, or their number; then, where it read them all, the first lines that fail
-// tests 5 and 7, and the numbers that fields 4 and 5 of the first line and field 4 of the last say.
+// tests 5, 6 and 7, the numbers that fields 4, 5 and 6 of the first line and field 4 of the last say, and whether the last TH has Site Status Code E.
 pub struct LinesRead {
     pub stopped: usize,
     pub unfilled: usize,
+    pub unpopulated: usize,
     pub miscoded: usize,
     pub retailer: u64,
     pub sender: u64,
+    pub commodity: u64,
     pub counted: u64,
+    pub energized: bool,
 }
 
 // A record's type, where its first three fields end, and whether they are filled as they must be.
@@ -115,19 +114,6 @@ fn read_head(file: &[u8], a: usize, e: usize, numbers: &mut [u64; 24]) -> Head
     }
 }
 
-// Whether a record whose fields stand at the first count of starts and ends names electricity as its commodity.
-fn is_electric<'a>(
-    file: &[u8],
-    starts: &'a [usize; 24],
-    ends: &'a [usize; 24],
-    count: usize,
-) -> bool
-    requires { ⌜ FieldsPlaced (now file) count (now starts) (now ends) ⌝ }
-    ensures { λ r. ⌜ r ≡ sameBytes (fieldAmong (fieldsAt (now (file .entry)) count (now (starts .entry)) (now (ends .entry))) 6) (written "EL") ⌝ }
-{
-    lists::same_bytes(records::field_among(file, starts, ends, count, 6), b"EL")
-}
-
 // A record whose fields are not read yet.
 fn no_record() -> Record
     ensures { λ r. ⌜ (r .record_type ≡ 9) × (r .count ≡ 0) × (r .starts ≡ replicate 24 0) × (r .ends ≡ replicate 24 0) ⌝ }
@@ -151,15 +137,18 @@ fn place_three(places: &mut [usize; 24], first: usize, second: usize, third: usi
 
 // What is kept before the first of n lines is read.
 fn none_read(n: usize) -> LinesRead
-    ensures { λ r. ⌜ (r .stopped ≡ 0) × (r .unfilled ≡ n) × (r .miscoded ≡ n) × (r .retailer ≡ 0) × (r .sender ≡ 0) × (r .counted ≡ 0) ⌝ }
+    ensures { λ r. ⌜ (r .stopped ≡ 0) × (r .unfilled ≡ n) × (r .unpopulated ≡ n) × (r .miscoded ≡ n) × (r .energized ≡ false) ⌝ }
 {
     LinesRead {
         stopped: 0,
         unfilled: n,
+        unpopulated: n,
         miscoded: n,
         retailer: 0,
         sender: 0,
+        commodity: 0,
         counted: 0,
+        energized: false,
     }
 }
 
@@ -173,28 +162,52 @@ fn of_first(i: usize, said: u64, before: u64) -> u64
     before
 }
 
-// What is kept of the lines with one more, line read.stopped of n, by whether it is filled, whether its codes are right, and its fields' numbers.
-fn with_line(read: LinesRead, n: usize, filled: bool, coded: bool, numbers: &[u64; 24]) -> LinesRead
+// The Site Status Code E, as the reader packs a text, and the field of TH that has it.
+const ENERGIZED: u64 = 69;
+
+const TH_STATUS: usize = 11;
+
+// Whether the nearest TH has Site Status Code E: it is this record, or was read before.
+fn nearest_energized(record_type: u64, status: u64, before: bool) -> bool
+    ensures { λ r. ⌜ r ≡ cond (eqb record_type TH) (eqb status (packed (written "E"))) before ⌝ }
+{
+    if record_type == tables::TH {
+        return status == ENERGIZED;
+    }
+    before
+}
+
+// What is kept of the lines with one more, line read.stopped of n: a record of a type, by whether it is filled, whether it lacks a conditional field, and its
+// fields' numbers.
+fn with_line(
+    read: LinesRead,
+    n: usize,
+    record_type: u64,
+    filled: bool,
+    unpopulated: bool,
+    numbers: &[u64; 24],
+) -> LinesRead
     requires { ⌜ read .stopped < n ⌝ }
-    ensures { λ r. ⌜ LineKept read n filled coded (now (numbers .entry)) r ⌝ }
+    ensures { λ r. ⌜ LineKept read n record_type filled unpopulated (now (numbers .entry)) r ⌝ }
 {
     let i = read.stopped;
+    let commodity = of_first(i, numbers[6], read.commodity);
+    let coded = codes_and_rows::codes_stand(record_type, numbers, commodity);
     LinesRead {
         stopped: i + 1,
         unfilled: lists::first_so_far(!filled, read.unfilled, n, i),
+        unpopulated: lists::first_so_far(unpopulated, read.unpopulated, n, i),
         miscoded: lists::first_so_far(!coded, read.miscoded, n, i),
         retailer: of_first(i, numbers[4], read.retailer),
         sender: of_first(i, numbers[5], read.sender),
+        commodity,
         counted: numbers[4],
+        energized: nearest_energized(record_type, numbers[TH_STATUS], read.energized),
     }
 }
 
-// Reads the lines; read.stopped is the line that is read next. The calendar's table, the tables' codes and marks, and the columns' fields are lent.
-fn read_lines_lent(
-    days: &[u64],
-    codes: &[usize],
-    marks: &[bool],
-    fields: &[[usize; 10]; 9],
+// Reads each of n lines, into the columns, up to the first that fails test 2 or 3; read.stopped is the line that is read next.
+pub fn read_lines(
     file: &[u8],
     starts: &[usize],
     ends: &[usize],
@@ -205,14 +218,14 @@ fn read_lines_lent(
 ) -> LinesRead
     requires { ⌜ Placed (now file) n (now starts) (now ends) (linesOf (now file)) × (1 ≤ n) ⌝ }
     requires { ⌜ Room n (now words) (now charges) (now usages) × (length (now charges) ≤ 4096) ⌝ }
-    requires { ⌜ (now days ≡ firstDays) × (now codes ≡ joined codeRows) × (now marks ≡ joined markRows) × (now fields ≡ columnFields) ⌝ }
-    ensures { λ r. ⌜ r .stopped ≡ firstUnread (linesOf (now (file .entry))) ⌝ }
-    ensures { λ r. ⌜ (r .stopped ≡ length (linesOf (now (file .entry))) → AllRead (linesOf (now (file .entry))) r) ⌝ }
-    ensures { λ r. ⌜ (r .stopped ≡ length (linesOf (now (file .entry))) → ColumnsRead (linesOf (now (file .entry))) (now (words .exit)) (now (charges .exit)) (now (usages .exit))) ⌝ }
+    ensures { λ r. ⌜ LinesTold (linesOf (now (file .entry))) (now (words .exit)) (now (charges .exit)) (now (usages .exit)) r ⌝ }
 {
+    let days = calendar::first_days();
+    let codes = tables::codes();
+    let marks = tables::marks();
+    let fields = columns::column_fields();
     let mut numbers = [0u64; 24];
     let mut record = no_record();
-    let mut electricity = false;
     let mut read = none_read(n);
     'records: while read.stopped < n {
         let i = read.stopped;
@@ -236,7 +249,7 @@ fn read_lines_lent(
             if e < a {
                 break 'records;
             }
-            let field = readings::read_field(days, codes[row + k], &file[a..e]);
+            let field = readings::read_field(&days, codes[row + k], &file[a..e]);
             let fits = field.fits;
             let len = field.len;
             if !fits {
@@ -256,49 +269,17 @@ fn read_lines_lent(
         }
         record.record_type = record_type;
         record.count = count;
-        if i == 0 {
-            electricity = is_electric(file, &record.starts, &record.ends, count);
-        }
-        let coded = codes_and_rows::codes_stand(record_type, &numbers, electricity);
-        codes_and_rows::store_line(fields, &numbers, record_type, words, charges, usages, i);
-        read = with_line(read, n, filled, coded, &numbers);
+        let lacks = is_unpopulated(
+            record_type,
+            &numbers,
+            &record.starts,
+            &record.ends,
+            read.energized,
+        );
+        codes_and_rows::store_line(&fields, &numbers, record_type, words, charges, usages, i);
+        read = with_line(read, n, record_type, filled, lacks, &numbers);
     }
     read
-}
-
-// Reads each of n lines, into the columns, up to the first that fails test 2 or 3.
-pub fn read_lines(
-    file: &[u8],
-    starts: &[usize],
-    ends: &[usize],
-    n: usize,
-    words: &mut [u64],
-    charges: &mut [u64],
-    usages: &mut [u64],
-) -> LinesRead
-    requires { ⌜ Placed (now file) n (now starts) (now ends) (linesOf (now file)) × (1 ≤ n) ⌝ }
-    requires { ⌜ Room n (now words) (now charges) (now usages) × (length (now charges) ≤ 4096) ⌝ }
-    ensures { λ r. ⌜ r .stopped ≡ firstUnread (linesOf (now (file .entry))) ⌝ }
-    ensures { λ r. ⌜ (r .stopped ≡ length (linesOf (now (file .entry))) → AllRead (linesOf (now (file .entry))) r) ⌝ }
-    ensures { λ r. ⌜ (r .stopped ≡ length (linesOf (now (file .entry))) → ColumnsRead (linesOf (now (file .entry))) (now (words .exit)) (now (charges .exit)) (now (usages .exit))) ⌝ }
-{
-    let days = calendar::first_days();
-    let codes = tables::codes();
-    let marks = tables::marks();
-    let fields = columns::column_fields();
-    read_lines_lent(
-        &days,
-        &codes,
-        &marks,
-        &fields,
-        file,
-        starts,
-        ends,
-        n,
-        words,
-        charges,
-        usages,
-    )
 }
 
 // The first line that fails test 2, or n, where none before `from` does.

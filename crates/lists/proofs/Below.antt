@@ -7,6 +7,7 @@
 --     some-holds, some-is, some-none        the same of `someBelow`
 --     first-same, some-same                 tests that agree below n have the same answer
 --     nearest-at-most, nearest-holds, nearest-none    what the nearest place is
+--     nearest-is, none-nearest                        and by what it is known
 --     count-none, count-more, count-kept    the count of a loop that stands at place n: at the start; one more; the same
 --     count-zero, zero-count                what the count is: 0 exactly where the test finds nothing
 -- Assumes nothing.
@@ -209,6 +210,26 @@ module _ (f : ℕ → Bool) where
           last : Dec (k < n) → f k ≡ false
           last (yes l) = rest e k l
           last (no l) = let same : n ≡ k = omega (arith, l) in subst (λ (m : ℕ). f m ≡ false) same q
+
+  -- the place below n for which f holds, and none after it, is the nearest; where f holds nowhere there is none
+  pub nearest-is : (n j : ℕ) → j < n → f j ≡ true → ((k : ℕ) → j < k → k < n → f k ≡ false) → nearestBelow f n ≡ suc j
+  nearest-is n j h is after = go (nearestBelow f n) refl
+    where
+      same : (m : ℕ) → nearestBelow f n ≡ suc m → Dec (j < m) → Dec (m < j) → suc m ≡ suc j
+      same m e (yes l) second = absurd (true≢false (sym (nearest-holds n m e .0) ∙ after m l (omega (arith, nearest-at-most n, e))))
+      same m e (no l) (yes k) = absurd (true≢false (sym is ∙ nearest-holds n m e .1 j k h))
+      same m e (no l) (no k) = omega (arith, l, k)
+
+      go : (p : ℕ) → nearestBelow f n ≡ p → p ≡ suc j
+      go zero e = absurd (true≢false (sym is ∙ nearest-none n e j h))
+      go (suc m) e = same m e (decLt j m) (decLt m j)
+
+  pub none-nearest : (n : ℕ) → ((k : ℕ) → k < n → f k ≡ false) → nearestBelow f n ≡ 0
+  none-nearest n none = go (nearestBelow f n) refl
+    where
+      go : (p : ℕ) → nearestBelow f n ≡ p → p ≡ 0
+      go zero e = refl
+      go (suc m) e = absurd (true≢false (sym (nearest-holds n m e .0) ∙ none m (omega (arith, nearest-at-most n, e))))
 
 -- ---- how many places
 module _ (f : ℕ → Bool) where

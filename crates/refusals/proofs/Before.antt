@@ -1,4 +1,5 @@
--- Check as it was before request 1, when an empty amount was read as 0: its definition, with the reading and the sums of that time.
+-- Check as it was before request 1, when an empty amount was read as 0: its definition, with the reading and the sums of that time, and with the other tests as they
+-- are today.
 --     check-before    Check answers as before, whatever the settings and the bytes
 -- Assumes nothing.
 use mathlib.Core.Path.{_≡_, refl, _∙_, ap}

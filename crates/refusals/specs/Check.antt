@@ -12,6 +12,7 @@ use Rattle.tables.specs.Types.{SH, TH, DU, CH, OC, FT}
 use Rattle.columns.specs.Columns.{numberIn, chargeIn, usageIn, recordType, recordId, parentId, site, startDay, endDay, cancel}
 use Rattle.tables.specs.Groups.{parentPlaces, picked, allPlaces, ones}
 use Rattle.format.specs.Format.{lineAt, firstUnformatted, firstUnfit, firstMisplaced, firstUnfilled, firstMiscoded}
+use Rattle.format.specs.Conditional.{firstUnpopulated}
 use Rattle.identity.specs.Identity.{firstRepeated, firstUnlike}
 use Rattle.headers.specs.Headers.{isOurs, isListed, countsRecords}
 use Rattle.periods.specs.Periods.{periodColumns, firstReversed, firstOverlapping}
@@ -56,10 +57,12 @@ formatRefusals lines =
     ∷ atRecord 3 (length lines) (firstUnfit lines)
     ∷ []
 
+-- request 2: "Checks: 6, at the failing record's line, after 5 and before 7."
 unfoldable pub orderRefusals : List (List ℕ) → List Refusal
 orderRefusals lines =
     atRecord 4 (length lines) (firstMisplaced (types lines))
     ∷ atRecord 5 (length lines) (firstUnfilled lines)
+    ∷ atRecord 6 (length lines) (firstUnpopulated lines)
     ∷ atRecord 7 (length lines) (firstMiscoded lines)
     ∷ []
 

@@ -7,13 +7,15 @@ use lib.Dec.{eqb}
 use Rattle.refusals.specs.declared.RejectionCode.{RejectionCode}
 use Rattle.refusals.specs.declared.RejectionCode.the-variants.{Code, NotATest}
 
--- the tests of Table 5-1 that document 01 lists, each with the code whose name in A5.24 is that of the test
+-- the tests of Table 5-1 that document 01 lists, each with the code whose name in A5.24 is that of the test. Request 2: "tests that requests add count as listed in
+-- document 01, their A5.24 codes included"
 abbrev pub rejectionCodes : List (ℕ × ℕ)
 rejectionCodes =
     (2, 6002)  -- Invalid file format
     ∷ (3, 6041)  -- Invalid data type
     ∷ (4, 6003)  -- Invalid record production sequence
     ∷ (5, 6004)  -- Failed mandatory field logic
+    ∷ (6, 6005)  -- Failed conditional field logic
     ∷ (7, 6006)  -- Invalid standard code
     ∷ (8, 6007)  -- Non-unique record ID
     ∷ (9, 6007)  -- Non-unique record ID

@@ -18,7 +18,7 @@ use lib.Dec.{eqb, ltb, ltb→lt, eqb→eq}
 use lib.ListN.{length, getD, drop, set, length-set}
 use lib.Seq.{drop-cons, set-at, append-snoc, getD-set-same, getD-set-other}
 use Rattle.lists.specs.Below.{nearestBelow}
-use Rattle.lists.proofs.Below.{nearest-more, nearest-kept, nearest-at-most, nearest-holds, nearest-none}
+use Rattle.lists.proofs.Below.{nearest-more, nearest-kept, nearest-at-most, nearest-holds, nearest-none, nearest-is}
 use Rattle.lists.proofs.Table.{every-at}
 use Rattle.tables.specs.Types.{parentType, parentTypes}
 use Rattle.tables.specs.Groups.{at, ofType, parentPlace, tabled, parentPlaces, pickedAt, picked, allPlaces, ones}
@@ -136,16 +136,10 @@ module _ (types : List ℕ) (i : ℕ) where
   -- the nearest earlier record of that type is the one
   pub parent-is : (j : ℕ) → j < i → at types j ≡ parentType (at types i) → ((k : ℕ) → j < k → k < i → at types k ≡ parentType (at types i) → ⊥)
       → parentPlace types i ≡ suc j
-  parent-is j h e none = go (parentPlace types i) refl
-    where
-      near : (m : ℕ) → parentPlace types i ≡ suc m → Dec (j < m) → Dec (m < j) → parentPlace types i ≡ suc j
-      near m q (yes l) d = absurd (none m l (omega (arith, q, parent-before)) (parent-type-there m q .0))
-      near m q (no l) (yes g) = absurd (parent-type-there m q .1 j g h e)
-      near m q (no l) (no g) = omega (arith, q, l, g)
-
-      go : (p : ℕ) → parentPlace types i ≡ p → parentPlace types i ≡ suc j
-      go zero q = absurd (parent-none q j h e)
-      go (suc m) q = near m q (decLt j m) (decLt m j)
+  unfolding parentPlace
+  parent-is j h e none =
+      nearest-is (ofType types (parentType (at types i))) i j h (eq-eqb (at types j) (parentType (at types i)) e)
+      (λ k a b. ne-eqb (at types k) (parentType (at types i)) (none k a b))
 
 -- ---- the four columns
 -- what is picked, or 0, is no more than what may be picked
