@@ -2,8 +2,8 @@
 --     cancel-refers    a TH or OC with Cancel Indicator Y has a Reference ID, and a Cancel Reason Code after it
 --     refers           so each cancel among the file's TH and OC names a Record ID: test 39's "an empty one names none" is met by none of them
 -- Assumes nothing.
-use mathlib.Core.Path.{_≡_, refl, sym, _∙_, ap, subst}
-use mathlib.Core.Bool.{Bool, true, false, _||_, true≢false}
+use mathlib.Core.Path.{_≡_, refl, sym, ap, subst}
+use mathlib.Core.Bool.{Bool, true, false, _||_}
 use mathlib.Core.Option.{some}
 use mathlib.Core.List.{List, []}
 use Prim.Native.Nat.{ℕ, _+_, _<_}
@@ -15,12 +15,11 @@ use Rattle.lists.specs.Bytes.{sameBytes}
 use Rattle.lists.specs.Written.{written}
 use Rattle.lists.proofs.Reflected.{same-bytes-is, empty-is}
 use Rattle.digits.specs.Digits.{digitsOf}
-use Rattle.fields.specs.declared.FieldType.the-variants.{RecordId}
 use Rattle.fields.specs.Fields.{isRead, fitsType}
 use Rattle.fields.proofs.Read.{read-value}
 use Rattle.tables.specs.Types.{TH, OC}
 use Rattle.tables.specs.Tables.{fieldCount, fieldType}
-use Rattle.records.specs.Records.{recordFields, field, typeIn}
+use Rattle.records.specs.Records.{field, typeIn}
 use Rattle.records.proofs.Laws.{fields-known}
 use Rattle.columns.specs.Columns.{fieldOf, fieldIn, cancel, reference}
 use Rattle.format.specs.Format.{lineAt}

@@ -4,7 +4,7 @@
 --     empties        some fields are empty exactly where they end as they start
 --     period-told, usage-told, demand-told, charge-told, other-told    what the test says of a record of each type
 -- Assumes nothing.
-use mathlib.Core.Path.{_≡_, refl, sym, _∙_, ap, ap₂, subst}
+use mathlib.Core.Path.{_≡_, sym, _∙_, ap, ap₂, subst}
 use mathlib.Core.List.{List}
 use mathlib.Core.Bool.{Bool, true, false, cond, _&&_}
 use Prim.Native.Nat.{ℕ, suc, _+_, _-_, _≤_, _<_}
@@ -19,10 +19,9 @@ use Rattle.lists.specs.Written.{written}
 use Rattle.lists.proofs.Below.{some-same}
 use Rattle.lists.proofs.Parts.{part-length}
 use Rattle.lists.proofs.Table.{every}
-use Rattle.amounts.specs.Amounts.{amountOf}
 use Rattle.amounts.specs.InsideSaid.{saidBy}
-use Rattle.records.specs.Records.{field, typeIn}
-use Rattle.records.specs.InsidePlacedLines.{part, At}
+use Rattle.records.specs.Records.{field}
+use Rattle.records.specs.InsidePlacedLines.{At}
 use Rattle.tables.specs.Types.{TH, DU, DD, OC}
 use Rattle.tables.specs.Tables.{fieldCount, fieldType}
 use Rattle.format.specs.Format.{isPrintable, isEmpty}
@@ -30,8 +29,7 @@ use Rattle.format.specs.Conditional.{hasCode, isEnergized, isOneOf, ratchets, u
 use Rattle.format.proofs.Conditional.{emptyAmong, period-lacks, usage-lacks, demand-lacks, charge-lacks, other-lacks}
 use Rattle.readings.specs.InsideLeadingBytes.{packed}
 use Rattle.readings.specs.InsideReadings.{Says}
-use Rattle.codes_and_rows.specs.InsideFields.{fieldAfter}
-use Rattle.codes_and_rows.proofs.Texts.{Printable, printable-line, printable-text, packed-is}
+use Rattle.codes_and_rows.proofs.Texts.{printable-line, printable-text, packed-is}
 use Rattle.codes_and_rows.proofs.FieldKinds.{hasKind, isShortText}
 use Rattle.codes_and_rows.proofs.Codes.{field-of, stands-at, field-printable, text-number}
 use Rattle.conditional_fields.specs.InsideRecords.{RecordRead}

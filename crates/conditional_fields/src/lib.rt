@@ -2,7 +2,6 @@
 // the places of its fields.
 ghost use mathlib.Core.Path.{_≡_};
 ghost use mathlib.Core.List.{List};
-ghost use mathlib.Core.Bool.{cond, _&&_};
 ghost use Prim.Native.Nat.{ℕ, _+_, _≤_};
 ghost use lib.Dec.{eqb};
 ghost use lib.ListN.{getD};
@@ -19,6 +18,23 @@ const OC_CANCEL_INDICATOR: usize = 6;
 const DU_METER_TYPE: usize = 8;
 
 const DD_DEMAND_TYPE: usize = 8;
+
+// Where the first field stands that a condition asks for, counted from 0 as a record's places are, and how many it asks for: Tariff Bill Period Reference ID and Cancel
+// Reason Code; Meter Number, and to Billing Multiplier where the site is energized; Ratchet Date Time and Ratchet Period Months; One-Time Charge Reference ID and
+// Cancel Reason Code.
+const TH_REFERENCE: usize = 7;
+
+const DU_METER_NUMBER: usize = 8;
+
+const DD_RATCHET: usize = 11;
+
+const OC_REFERENCE: usize = 6;
+
+const TWO_FIELDS: usize = 2;
+
+const METER_NUMBER_ALONE: usize = 1;
+
+const TO_BILLING_MULTIPLIER: usize = 7;
 
 // The codes that they are compared with, as the reader packs a text: Y, and C for a cumulative meter.
 const YES: u64 = 89;
@@ -80,26 +96,30 @@ pub fn is_unpopulated<'a>(
             if numbers[TH_CANCEL_INDICATOR] != YES {
                 return false;
             }
-            some_empty(starts, ends, 7, 2)
+            some_empty(starts, ends, TH_REFERENCE, TWO_FIELDS)
         }
         tables::DU => {
             if numbers[DU_METER_TYPE] != CUMULATIVE {
                 return false;
             }
-            let count: usize = if energized { 7 } else { 1 };
-            some_empty(starts, ends, 8, count)
+            let count: usize = if energized {
+                TO_BILLING_MULTIPLIER
+            } else {
+                METER_NUMBER_ALONE
+            };
+            some_empty(starts, ends, DU_METER_NUMBER, count)
         }
         tables::DD => {
             if !is_ratchet(numbers[DD_DEMAND_TYPE]) {
                 return false;
             }
-            some_empty(starts, ends, 11, 2)
+            some_empty(starts, ends, DD_RATCHET, TWO_FIELDS)
         }
         tables::OC => {
             if numbers[OC_CANCEL_INDICATOR] != YES {
                 return false;
             }
-            some_empty(starts, ends, 6, 2)
+            some_empty(starts, ends, OC_REFERENCE, TWO_FIELDS)
         }
         _ => false,
     }

@@ -10,7 +10,7 @@ use Rattle.amounts.specs.InsideSaid.{saidBy}
 use Rattle.amounts.specs.declared.Amount.the-variants.{Value as Units}
 use Rattle.amounts.proofs.Sayings.{said-plain, said-units}
 use Rattle.format.specs.Conditional.{isOneOf, ratchets}
-use Rattle.format.proofs.Conditional.{IsRatchet, one-of}
+use Rattle.format.proofs.Conditional.{one-of}
 use Rattle.conditional_fields.proofs.is_ratchet.Statement.{statement}
 use Rattle.conditional_fields.proofs.is_ratchet.Tie as tie
 

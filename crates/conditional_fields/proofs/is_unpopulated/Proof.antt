@@ -1,13 +1,13 @@
 -- `is_unpopulated` meets its contract: each arm asks what the test asks of a record of its type.
 -- Assumes nothing.
-use mathlib.Core.Path.{_≡_, refl, sym, _∙_, ap}
+use mathlib.Core.Path.{_≡_, sym, _∙_}
 use mathlib.Core.Logic.{⊎-elim}
 use mathlib.Core.Bool.{Bool, true, false, cond}
-use Prim.Native.Nat.{ℕ, _≤_}
+use Prim.Native.Nat.{_≤_}
 use native.Mathlib.Omega.{arith}
 use borrow.Author.Tests.{eq-eqb, ne-eqb, not-true, not-false}
 use borrow.Author.Needs.{needs}
-use Rattle.readings.specs.InsideLeadingBytes.{packed, packedAfter}
+use Rattle.readings.specs.InsideLeadingBytes.{packedAfter}
 use Rattle.conditional_fields.proofs.Records.{unasked, as-empty, period-told, usage-told, demand-told, charge-told, other-told}
 use Rattle.conditional_fields.proofs.is_unpopulated.Statement.{statement}
 use Rattle.conditional_fields.proofs.is_unpopulated.Tie as tie

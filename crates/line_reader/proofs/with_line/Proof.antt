@@ -1,6 +1,5 @@
 -- `with_line` meets its contract: each value is what its function answers, and whether the codes stand goes by the commodity that is kept.
 -- Assumes nothing.
-use Prim.Native.Nat.{ℕ}
 use mathlib.Core.Path.{refl, _∙_, ap}
 use mathlib.Core.Bool.{Bool, not}
 use borrow.Author.Needs.{needs}
