@@ -2,7 +2,8 @@
 //!
 //! Document 01, "Operations": "Rejection code of a test. 107 if the number
 //! isn't a Table 5-1 test listed here (101 and 102 aren't). Otherwise the code
-//! from A5.24".
+//! from A5.24". Document 02, 2: "tests that requests add count as listed in
+//! document 01, their A5.24 codes included".
 
 /// Table A5-21: the codes of A5.24 with their names, in the table's order.
 pub const REJECTION_CODES: [(u32, &str); 43] = [
@@ -51,18 +52,19 @@ pub const REJECTION_CODES: [(u32, &str); 43] = [
     (6048, "Failed tariff bill file reference ID"),
 ];
 
-/// The refusal for a number that isn't a test of Table 5-1 listed in
-/// document 01.
+/// The refusal for a number that isn't a test of Table 5-1 that documents 01
+/// and 02 list.
 pub const NOT_A_TEST: u32 = 107;
 
-/// The A5.24 code of a test of Table 5-1 that document 01 lists, matched by
-/// the test's check and the code's name. None for any other number.
+/// The A5.24 code of a test of Table 5-1 that documents 01 and 02 list, matched
+/// by the test's check and the code's name. None for any other number.
 pub fn rejection_code(test: u64) -> Option<u32> {
     let code = match test {
         2 => 6002,     // file format
         3 => 6041,     // data type
         4 => 6003,     // record production sequence
         5 => 6004,     // mandatory field logic
+        6 => 6005,     // conditional field logic
         7 => 6006,     // standard codes
         8 | 9 => 6007, // unique record IDs, with previous files and within the file
         10 => 6008,    // parent ID
@@ -110,10 +112,20 @@ mod tests {
         assert_eq!(rejection_code(102), None);
     }
 
-    /// "tests 2 to 5, 7 to 12, 14, 17, 18, 29 to 34 and 38 to 40".
+    /// Test 6 of Table 5-1 checks "Conditional field logic".
     #[test]
-    fn tests_listed_by_document_01() {
-        let listed = |test: u64| matches!(test, 2..=5 | 7..=12 | 14 | 17 | 18 | 29..=34 | 38..=40);
+    fn code_of_test_6() {
+        let code = rejection_code(6).unwrap();
+        let name = REJECTION_CODES.iter().find(|row| row.0 == code).unwrap().1;
+        assert_eq!((code, name), (6005, "Failed conditional field logic"));
+    }
+
+    /// "tests 2 to 5, 7 to 12, 14, 17, 18, 29 to 34 and 38 to 40", and 6, which
+    /// document 02 adds.
+    #[test]
+    fn tests_listed_by_documents_01_and_02() {
+        let listed =
+            |test: u64| matches!(test, 2..=5 | 6 | 7..=12 | 14 | 17 | 18 | 29..=34 | 38..=40);
         for test in 0..200 {
             assert_eq!(rejection_code(test).is_some(), listed(test), "{test}");
         }

@@ -409,6 +409,30 @@ impl RecordType {
         }
     }
 
+    /// The number of the Site Status Code field.
+    pub const fn site_status_field(self) -> Option<usize> {
+        match self {
+            PeriodHeader => Some(11),
+            _ => None,
+        }
+    }
+
+    /// The number of the Meter Type Code field.
+    pub const fn meter_type_field(self) -> Option<usize> {
+        match self {
+            UsageDeterminant => Some(8),
+            _ => None,
+        }
+    }
+
+    /// The number of the Demand Type Code field.
+    pub const fn demand_type_field(self) -> Option<usize> {
+        match self {
+            DemandDeterminant => Some(8),
+            _ => None,
+        }
+    }
+
     /// The number of the Reference ID field that names a record to cancel.
     pub const fn reference_field(self) -> Option<usize> {
         match self {
@@ -601,6 +625,11 @@ impl<'file> Records<'file> {
         self.heads.is_empty()
     }
 
+    /// The record of a place, from 0.
+    pub fn at(&self, place: usize) -> Record<'_, 'file> {
+        self.record(&self.heads[place])
+    }
+
     /// The records in file order.
     pub fn iter(&self) -> impl Iterator<Item = Record<'_, 'file>> {
         self.heads.iter().map(|head| self.record(head))
@@ -681,6 +710,9 @@ mod tests {
         for record_type in RECORD_TYPES {
             named(record_type, record_type.site_field(), &["Site ID"]);
             named(record_type, record_type.cancel_indicator_field(), &["Cancel Indicator"]);
+            named(record_type, record_type.site_status_field(), &["Site Status Code"]);
+            named(record_type, record_type.meter_type_field(), &["Meter Type Code"]);
+            named(record_type, record_type.demand_type_field(), &["Demand Type Code"]);
             named(record_type, record_type.usage_field(), &["Usage Total", "Usage Amount"]);
             named(record_type, record_type.usage_unit_field(), &["Usage UOM"]);
             named(record_type, record_type.charge_field(), &["Charge Total", "Charge Amount"]);

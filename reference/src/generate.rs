@@ -14,8 +14,9 @@ pub mod scenario;
 
 use crate::bill::Commodity;
 use crate::calendar::LAST_DAY;
+use crate::conditions::condition_of;
 use crate::fields::FieldType;
-use crate::file::RecordType;
+use crate::file::{Mark, RecordType};
 use content::{
     date, one_time_record, period_records, Cancels, ContentBuilder, Days, OneTimeCharge,
     TariffBillPeriod,
@@ -29,10 +30,11 @@ pub enum Style {
     /// As a distributor would: dates of 2024, numbers in their shortest form,
     /// cancels right before their rebills.
     Sample,
-    /// All that document 01 allows: days of the whole calendar, leading zeros,
-    /// minus zero, either line end, rebills before their cancels, periods that
-    /// overlap earlier ones, a site under two Site Headers, amounts that aren't
-    /// mandatory left out or 0.
+    /// All that documents 01 and 02 allow: days of the whole calendar, leading
+    /// zeros, minus zero, either line end, rebills before their cancels, periods
+    /// that overlap earlier ones, a site under two Site Headers, sites of any
+    /// status, conditional fields left out or filled where their condition
+    /// doesn't hold, and 0 for the amounts among them.
     Varied,
 }
 
@@ -520,7 +522,8 @@ impl Generator {
         trailer.set(5, amount_text(plans.iter().map(SitePlan::charge).sum(), 2));
         draft.records.push(trailer);
         if self.style == Style::Varied {
-            self.vary_optional_amounts(&mut draft);
+            self.vary_codes(&mut draft);
+            self.vary_conditional_fields(&mut draft);
             self.vary_notation(&mut draft);
         }
         draft
@@ -579,17 +582,39 @@ impl Generator {
         record_id
     }
 
-    /// Leaves out a third of the amounts that aren't mandatory, and puts a zero
-    /// in the place of another third. No test reads their values.
-    fn vary_optional_amounts(&mut self, draft: &mut Draft) {
+    /// Gives periods any Site Status Code, some usage of cumulative meters
+    /// another Meter Type Code, and demand that is a ratchet the code of any of
+    /// the four, or one that is none. Of the tests only 6 reads them.
+    fn vary_codes(&mut self, draft: &mut Draft) {
+        let random = &mut self.random;
         for record in &mut draft.records {
-            for number in record.record_type.optional_amount_fields() {
+            let record_type = record.record_type;
+            if let Some(number) = record_type.site_status_field() {
+                record.set(number, random.pick(&["E", "E", "E", "D", "I", "e"]));
+            }
+            if let Some(number) = record_type.meter_type_field() {
+                if record.field(number) == "C" && random.percent(20) {
+                    record.set(number, random.pick(&["I", "U", "c"]));
+                }
+            }
+            if let Some(number) = record_type.demand_type_field() {
+                if record.field(number) == "4100" {
+                    let codes = ["4100", "4110", "4120", "4200", "4130", "-4100"];
+                    record.set(number, random.pick(&codes));
+                }
+            }
+        }
+    }
+
+    /// Leaves out a third of the conditional fields that no condition asks for,
+    /// and fills a third of them, asked for or not.
+    fn vary_conditional_fields(&mut self, draft: &mut Draft) {
+        for place in 0..draft.records.len() {
+            let record_type = draft.records[place].record_type;
+            for number in varied_fields(record_type) {
                 match self.random.below(3) {
-                    0 => record.set(number, ""),
-                    1 => {
-                        let field_type = record.record_type.fields()[number - 1].field_type;
-                        record.set(number, some_zero(&mut self.random, field_type));
-                    }
+                    0 if !draft.asks_for(place, number) => draft.records[place].set(number, ""),
+                    1 => fill(&mut self.random, &mut draft.records[place], number),
                     _ => {}
                 }
             }
@@ -636,11 +661,45 @@ impl Generator {
     }
 }
 
+/// The numbers of the conditional fields whose values no test reads, but that of
+/// a cancel's Reference ID. SH's billing dates are none: test 18 reads them.
+fn varied_fields(record_type: RecordType) -> impl Iterator<Item = usize> {
+    let is_date = move |number: usize| {
+        record_type.period_fields().is_some_and(|(start, end)| number == start || number == end)
+    };
+    let numbered = record_type.fields().iter().zip(1..);
+    let conditional = numbered.filter(|(field, _)| field.mark == Mark::Conditional);
+    conditional.map(|(_, number)| number).filter(move |&number| !is_date(number))
+}
+
+/// Makes an amount 0, and fills a field that is empty if test 6 can ask for it.
+fn fill(random: &mut Random, record: &mut DraftRecord, number: usize) {
+    let field_type = record.record_type.fields()[number - 1].field_type;
+    let can_be_asked_for = condition_of(record.record_type, number).is_some();
+    match field_type {
+        FieldType::Number(..) => record.set(number, some_zero(random, field_type)),
+        _ if can_be_asked_for && record.field(number).is_empty() => {
+            record.set(number, some_text(random, field_type));
+        }
+        _ => {}
+    }
+}
+
 /// A zero that fits a Number(p,s).
 fn some_zero(random: &mut Random, field_type: FieldType) -> &'static str {
     match field_type {
         FieldType::Number(_, 2..) => random.pick(&["0", "-0", "0.00", "-0.00"]),
         _ => random.pick(&["0", "-0"]),
+    }
+}
+
+/// Text that fits a type other than Number(p,s).
+fn some_text(random: &mut Random, field_type: FieldType) -> String {
+    match field_type {
+        FieldType::Digits(length) | FieldType::Char(length) => "0".repeat(length),
+        FieldType::Date => "20240101".to_owned(),
+        FieldType::DateTime => "20240101103000".to_owned(),
+        _ => random.below(5_000).to_string(),
     }
 }
 

@@ -12,6 +12,7 @@ pub mod booking;
 pub mod calendar;
 pub mod check;
 pub mod codes;
+pub mod conditions;
 pub mod desk;
 pub mod fields;
 pub mod file;

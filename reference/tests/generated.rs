@@ -2,9 +2,12 @@
 //! are accepted, damaged ones fail as intended, and the archive's guarantee
 //! holds.
 
+use std::collections::BTreeMap;
+
 use reference::bill::Bill;
 use reference::booking::{book, Answer};
 use reference::check::{check, Refusal};
+use reference::conditions::{ConditionalField, CONDITIONAL_FIELDS};
 use reference::fields::Amount;
 use reference::file::{RecordType, Records};
 use reference::generate::cancels::{Mistake, MISTAKES};
@@ -71,31 +74,74 @@ fn valid_files_pass() {
     }
 }
 
-/// In the varied style each amount that isn't mandatory is often left out, and
-/// often 0.
+/// How often a field was met.
+#[derive(Debug, Default)]
+struct Met {
+    asked_for: usize,
+    zeros_asked_for: usize,
+    left_out: usize,
+    filled: usize,
+}
+
+/// In the varied style each field that test 6 asks for under a condition is
+/// filled where it holds, an amount often with 0, and often left out and often
+/// filled where it doesn't.
 #[test]
-fn amounts_left_out() {
+fn conditional_fields() {
     let mut generator = Generator::new(3, Style::Varied);
-    let mut counts = std::collections::BTreeMap::new();
-    for _ in 0..300 {
-        let request = generator.full_request();
-        for record in &generator.valid(&request).records {
-            for number in record.record_type.optional_amount_fields() {
-                let [all, missing, zeros] =
-                    counts.entry((record.record_type.code(), number)).or_insert([0; 3]);
-                *all += 1;
-                match record.amount(number) {
-                    Amount::Missing => *missing += 1,
-                    Amount::Value(0) => *zeros += 1,
-                    Amount::Value(_) => {}
-                    Amount::Misses => panic!("{record:?} is valid"),
+    let mut counts: BTreeMap<(&str, usize), Met> = BTreeMap::new();
+    for _ in 0..1_500 {
+        let request = Request { cancels: 4, ..generator.full_request() };
+        let draft = generator.valid(&request);
+        generator.begin_ledger();
+        generator.accept(&draft);
+        for (place, record) in draft.records.iter().enumerate() {
+            let of_type = |row: &&ConditionalField| row.record_type == record.record_type;
+            for row in CONDITIONAL_FIELDS.iter().filter(of_type) {
+                let met = counts.entry((record.record_type.code(), row.number)).or_default();
+                let is_empty = record.field(row.number).is_empty();
+                if draft.meets(place, row.condition) {
+                    assert!(!is_empty, "field {} of {record:?}", row.number);
+                    met.asked_for += 1;
+                    met.zeros_asked_for +=
+                        usize::from(record.amount(row.number) == Amount::Value(0));
+                } else {
+                    met.left_out += usize::from(is_empty);
+                    met.filled += usize::from(!is_empty);
                 }
             }
         }
     }
-    assert_eq!(counts.len(), 8);
-    for [all, missing, zeros] in counts.values() {
-        assert!(*all > 300 && missing * 4 > *all && zeros * 4 > *all, "{counts:?}");
+    assert_eq!(counts.len(), CONDITIONAL_FIELDS.len());
+    for row in CONDITIONAL_FIELDS {
+        let met = &counts[&(row.record_type.code(), row.number)];
+        let is_amount = row.record_type.amount_fields().any(|number| number == row.number);
+        assert!(!is_amount || met.zeros_asked_for > 100, "{row:?}: {met:?}");
+        assert!(met.asked_for > 300 && met.left_out > 300 && met.filled > 300, "{row:?}: {met:?}");
+    }
+}
+
+/// The ways in which the condition of a reading doesn't hold all occur, in
+/// files that pass, with the reading left out.
+#[test]
+fn readings_left_out() {
+    let mut generator = Generator::new(4, Style::Varied);
+    let mut ways: BTreeMap<(bool, bool), usize> = BTreeMap::new();
+    for _ in 0..300 {
+        let request = generator.full_request();
+        let draft = generator.valid(&request);
+        assert_eq!(both_checks(b"0040", &draft.plain_bytes()), (0, 0));
+        for place in draft.places(|record| record.record_type == RecordType::UsageDeterminant) {
+            if draft.records[place].field(13).is_empty() {
+                let header = &draft.records[draft.period_header(place).unwrap()];
+                let way = (header.field(11) == "E", draft.records[place].field(8) == "C");
+                *ways.entry(way).or_insert(0) += 1;
+            }
+        }
+    }
+    assert!(!ways.contains_key(&(true, true)), "{ways:?}");
+    for way in [(true, false), (false, true), (false, false)] {
+        assert!(ways.get(&way).is_some_and(|&count| count > 100), "{ways:?}");
     }
 }
 
@@ -283,7 +329,7 @@ fn archive_guarantee() {
 /// Lists of bookings: both forms agree call by call, and demand 3 is kept.
 #[test]
 fn histories() {
-    let mut answers = std::collections::BTreeMap::new();
+    let mut answers = BTreeMap::new();
     for seed in 0..200 {
         let mut history = History::new(seed);
         let length = history.random().place(300);
@@ -320,6 +366,7 @@ fn histories() {
 fn cancel_files() {
     let wanted = |mistake: Option<Mistake>| match mistake {
         None => 0,
+        Some(Mistake::NoReference) => 6,
         Some(Mistake::OtherCharge | Mistake::OtherUsage) => 40,
         Some(_) => 39,
     };
@@ -343,8 +390,8 @@ fn cancel_files() {
 
 #[test]
 fn puzzles() {
-    let mut checked = std::collections::BTreeMap::new();
-    let mut booked = std::collections::BTreeMap::new();
+    let mut checked = BTreeMap::new();
+    let mut booked = BTreeMap::new();
     for seed in 0..120 {
         let mut generator = Generator::with_senders(seed, Style::Varied, &SENDERS[..2]);
         let distributors = generator.distributors();
@@ -360,7 +407,7 @@ fn puzzles() {
             *booked.entry(number_of(answer)).or_insert(0) += 1;
         }
     }
-    for number in [0, 9, 18, 29, 30, 31, 32, 34, 38] {
+    for number in [0, 6, 9, 18, 29, 30, 31, 32, 34, 38] {
         assert!(checked.contains_key(&number), "{number}: {checked:?}");
     }
     for number in [0, 8, 39, 40, 102, 101] {

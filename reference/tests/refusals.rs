@@ -1,4 +1,5 @@
-//! One test for each number that refuses a call.
+//! One test for each number that refuses a call, but 6, whose tests are in
+//! conditional_fields.rs.
 
 mod common;
 
@@ -7,18 +8,6 @@ use reference::booking::book;
 use reference::check::check;
 use reference::check::Refusal;
 use reference::ledger::{find, totals, Entry};
-
-fn checked(lines: &[String]) -> (u32, u32) {
-    check(RETAILER, DISTRIBUTORS, &text(lines))
-}
-
-/// Replaces a field of a line, both counted from 1.
-fn with_field(mut lines: Vec<String>, line: usize, number: usize, field: &str) -> Vec<String> {
-    let mut fields: Vec<&str> = lines[line - 1].split(',').collect();
-    fields[number - 1] = field;
-    lines[line - 1] = fields.join(",");
-    lines
-}
 
 fn changed(line: usize, number: usize, field: &str) -> (u32, u32) {
     checked(&with_field(every_type(), line, number, field))
@@ -201,8 +190,8 @@ fn test_39_cancel_reference() {
     let mut desk = Desk::new(64);
     desk.book(&january());
     let cancel = || rebill(10, "-100", "-10");
-    assert_eq!(desk.book(&with_field(cancel(), 3, 8, "")), refused(39, 3));
     assert_eq!(desk.book(&with_field(cancel(), 3, 8, "1")), refused(39, 3));
+    assert_eq!(desk.book(&with_field(cancel(), 3, 8, "12")), refused(39, 3));
     assert_eq!(desk.book(&with_field(cancel(), 3, 6, "20240130")), refused(39, 3));
     assert_eq!(desk.book(&with_field(cancel(), 3, 8, "0003")), booked(3, 0));
 }
@@ -224,7 +213,7 @@ fn test_39_two_cancels_of_one_record() {
         file_trailer(18, 10, 9, "-200"),
     ];
     assert_eq!(desk.book(&lines), refused(39, 6));
-    lines = with_field(lines, 3, 8, "");
+    lines = with_field(lines, 3, 8, "12");
     assert_eq!(desk.book(&lines), refused(39, 3));
 }
 

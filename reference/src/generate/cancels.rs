@@ -14,8 +14,8 @@ use crate::generate::random::Random;
 use crate::generate::Generator;
 use crate::ledger::{kind, state, Entry};
 
-/// What is wrong with a cancel. Test 39 sees all but the last two, which are
-/// for test 40.
+/// What is wrong with a cancel. Test 6 sees the first, test 40 the last two, and
+/// test 39 the others.
 #[derive(Clone, Copy, Debug, PartialEq, Eq)]
 pub enum Mistake {
     /// It has no Reference ID.
@@ -118,7 +118,8 @@ impl Generator {
 
     /// One to three live or held entries of a sender and commodity. The first
     /// is often one that was billed in place of a cancelled one; without a
-    /// Reference ID it is one with Record ID 0 where there is any.
+    /// Reference ID it is one with Record ID 0 where there is any, which an
+    /// empty field must not be taken for.
     fn entries_to_cancel(
         &mut self,
         stored: &[Entry],

@@ -3,6 +3,7 @@
 
 use crate::calendar::{date_of, day_of};
 use crate::check::check;
+use crate::conditions::CONDITIONAL_FIELDS;
 use crate::fields::FieldType;
 use crate::file::{Mark, RecordType, MOST_BYTES, MOST_LINES};
 use crate::generate::draft::{Draft, DraftRecord};
@@ -10,8 +11,8 @@ use crate::generate::random::Random;
 use crate::generate::{Generator, Request, MOST_TRIES, RETAILER};
 
 /// The tests of Check, in their order.
-pub const CHECK_TESTS: [u32; 19] =
-    [2, 3, 4, 5, 7, 9, 10, 11, 12, 14, 17, 18, 29, 30, 31, 32, 33, 34, 38];
+pub const CHECK_TESTS: [u32; 20] =
+    [2, 3, 4, 5, 6, 7, 9, 10, 11, 12, 14, 17, 18, 29, 30, 31, 32, 33, 34, 38];
 
 impl Generator {
     /// A file whose first failure is this test of Check.
@@ -126,6 +127,7 @@ fn damage(random: &mut Random, draft: &mut Draft, test: u32, listed: &[u8]) {
         3 => break_a_type(random, draft),
         4 => break_the_sequence(random, draft),
         5 => clear_a_mandatory_field(random, draft),
+        6 => clear_a_conditional_field(random, draft),
         7 => break_a_code(random, draft),
         9 => repeat_a_record_id(random, draft),
         10 => break_a_parent_id(random, draft),
@@ -224,6 +226,20 @@ fn clear_a_mandatory_field(random: &mut Random, draft: &mut Draft) {
     let number = random.between(1, record.fields.len() as u64) as usize;
     if number != 3 && record.record_type.fields()[number - 1].mark == Mark::Mandatory {
         record.set(number, "");
+    }
+}
+
+/// Clears a field that test 6 asks for. Of the fields that it asks for in some
+/// record each is as likely as the others.
+fn clear_a_conditional_field(random: &mut Random, draft: &mut Draft) {
+    let asked: Vec<(usize, Vec<usize>)> = CONDITIONAL_FIELDS
+        .iter()
+        .map(|field| (field.number, draft.places_that_ask(field)))
+        .filter(|(_, places)| !places.is_empty())
+        .collect();
+    if !asked.is_empty() {
+        let (number, places) = &asked[random.place(asked.len())];
+        draft.records[random.pick(places)].set(*number, "");
     }
 }
 

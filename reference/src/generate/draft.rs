@@ -1,6 +1,7 @@
 //! A file as records of text fields, before it is written as bytes.
 
 use crate::bill::Commodity;
+use crate::conditions::{condition_of, Condition, ConditionalField};
 use crate::fields::{amount_of, Amount, FieldType};
 use crate::file::RecordType;
 use crate::generate::content::{OneTimeCharge, TariffBillPeriod};
@@ -158,6 +159,35 @@ impl Draft {
         meeting.map(|(place, _)| place).collect()
     }
 
+    /// The place of the nearest TH before a place.
+    pub fn period_header(&self, place: usize) -> Option<usize> {
+        let is_header = |record: &DraftRecord| record.record_type == RecordType::PeriodHeader;
+        self.records[..place].iter().rposition(is_header)
+    }
+
+    /// Whether a condition of test 6 holds of the record at a place.
+    pub fn meets(&self, place: usize, condition: Condition) -> bool {
+        let record = &self.records[place];
+        let site_status = || {
+            let header = &self.records[self.period_header(place)?];
+            header.record_type.site_status_field().map(|number| header.field(number).as_bytes())
+        };
+        let field = |number: usize| record.field(number).as_bytes();
+        condition.holds(record.record_type, field, site_status)
+    }
+
+    /// Whether test 6 asks for the field of a number in the record at a place.
+    pub fn asks_for(&self, place: usize, number: usize) -> bool {
+        condition_of(self.records[place].record_type, number)
+            .is_some_and(|condition| self.meets(place, condition))
+    }
+
+    /// The places of the records in which test 6 asks for a field.
+    pub fn places_that_ask(&self, field: &ConditionalField) -> Vec<usize> {
+        let places = self.places(|record| record.record_type == field.record_type);
+        places.into_iter().filter(|&place| self.meets(place, field.condition)).collect()
+    }
+
     /// Adds to a record's Usage or Charge Amount, and to all totals over it.
     pub fn shift_with_totals(&mut self, place: usize, units: i64) {
         let record = &self.records[place];
@@ -170,11 +200,7 @@ impl Draft {
             _ => return,
         };
         self.records[place].shift(number, units);
-        let period_header = (0..place)
-            .rev()
-            .find(|&place| self.records[place].record_type == RecordType::PeriodHeader)
-            .filter(|_| is_child);
-        if let Some(place) = period_header {
+        if let Some(place) = self.period_header(place).filter(|_| is_child) {
             self.records[place].shift(totals_number, units);
         }
         for record in &mut self.records {

@@ -277,9 +277,15 @@ fn dated(record_type: RecordType, site: u64, item: &Item) -> DraftRecord {
     record
 }
 
+/// Sets the Reference ID, where there is one, and a cancel's reason.
+fn set_reference(record: &mut DraftRecord, item: &Item, number: usize, reason: &str) {
+    record.set(number, item.reference.map_or(String::new(), |reference| reference.to_string()));
+    record.set(number + 1, if item.is_cancel { reason } else { "" });
+}
+
 fn period_header(commodity: Commodity, item: &Item) -> DraftRecord {
     let mut record = dated(RecordType::PeriodHeader, item.site, item);
-    record.set(8, item.reference.map_or(String::new(), |reference| reference.to_string()));
+    set_reference(&mut record, item, 8, "3030");
     record.set(10, "R");
     record.set(11, "E");
     record.set(12, amount_text(item.usage, 4));
@@ -301,7 +307,7 @@ pub(super) fn one_time_charge(item: &Item) -> DraftRecord {
     record.set(4, site_text(item.site));
     record.set(5, date(item.days.0 as u32));
     record.set(6, flag(item.is_cancel));
-    record.set(7, item.reference.map_or(String::new(), |reference| reference.to_string()));
+    set_reference(&mut record, item, 7, "3070");
     record.set(9, "CONN");
     record.set(10, amount_text(item.charge, 2));
     record.set(11, "N");

@@ -61,6 +61,9 @@ pub fn sample_files(seed: u64) -> Vec<(String, Vec<u8>)> {
     let draft = generator.valid(&gas_rebill);
     files.push((CANCEL_AND_REBILL_GAS.to_owned(), draft.plain_bytes()));
     generator.begin_ledger();
-    files.extend(CHECK_TESTS.map(|test| (sample_name(test), generator.damaged(test))));
+    // That of 6, a later request, comes last, so that the others stay as they were.
+    let (of_6, others): (Vec<u32>, Vec<u32>) = CHECK_TESTS.iter().partition(|&&test| test == 6);
+    let tests = others.into_iter().chain(of_6);
+    files.extend(tests.map(|test| (sample_name(test), generator.damaged(test))));
     files
 }

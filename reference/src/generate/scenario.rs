@@ -185,8 +185,8 @@ fn take_stored_id(random: &mut Random, draft: &mut Draft, stored: &[Entry]) {
     }
 }
 
-/// Lets a cancel name no entry, another one, or one that an earlier cancel of
-/// the file names, or moves its days.
+/// Lets a cancel name itself, another entry or none, or one that an earlier
+/// cancel of the file names, or moves its days.
 fn break_a_reference(random: &mut Random, draft: &mut Draft) {
     let cancels = draft.places(|record| is_booked(record) && record.is_cancel());
     if cancels.is_empty() {
@@ -200,7 +200,7 @@ fn break_a_reference(random: &mut Random, draft: &mut Draft) {
     let record = &mut draft.records[place];
     let number = reference_of(record);
     match random.below(4) {
-        0 => record.set(number, ""),
+        0 => record.set(number, record.field(1).to_owned()),
         1 => record.set(number, random.below(5_000).to_string()),
         2 => record.set(number, other_reference),
         _ => lengthen(record),

@@ -3,8 +3,9 @@
 #![allow(dead_code)]
 
 use reference::booking::{book, Answer};
-use reference::check::Refusal;
+use reference::check::{check, Refusal};
 use reference::ledger::Entry;
+use reference::plain;
 
 pub const RETAILER: u64 = 999_999_999;
 pub const DISTRIBUTORS: &[u8] = b"0040";
@@ -141,6 +142,21 @@ pub fn every_type() -> Vec<String> {
         one_time(11, 2, "N", ",", "25"),
         file_trailer(12, 1, 12, "120.00"),
     ]
+}
+
+/// What both forms of Check answer.
+pub fn checked(lines: &[String]) -> (u32, u32) {
+    let answer = check(RETAILER, DISTRIBUTORS, &text(lines));
+    assert_eq!(plain::check(RETAILER, DISTRIBUTORS, &text(lines)), answer);
+    answer
+}
+
+/// Replaces a field of a line, both counted from 1.
+pub fn with_field(mut lines: Vec<String>, line: usize, number: usize, field: &str) -> Vec<String> {
+    let mut fields: Vec<&str> = lines[line - 1].split(',').collect();
+    fields[number - 1] = field;
+    lines[line - 1] = fields.join(",");
+    lines
 }
 
 /// A ledger that files are booked into.
