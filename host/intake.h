@@ -3,8 +3,8 @@
  * The library tests a distributor's tariff bill file (intake_check), books accepted files into a ledger that the host owns
  * (intake_book), sums the ledger (intake_totals), and finds a period in it (intake_find). It also reads a date (intake_day) and an
  * amount (intake_amount) as they stand in a file, and has the code of a test (intake_code). What stands in quotation marks here
- * stands in document 01, the scope of the project. docs/HOST.md has the link line and a whole host; docs/REFUSALS.md says for
- * each refusal what to ask the distributor for.
+ * stands in document 01, the scope of the project, and what is said of test 6 in document 02, the requests to change it.
+ * docs/HOST.md has the link line and a whole host; docs/REFUSALS.md says for each refusal what to ask the distributor for.
  *
  *
  * WHAT HOLDS OF EVERY CALL
@@ -32,8 +32,8 @@
  * REFUSALS
  *
  * The numbers from 2 to 40 are tests of Table 5-1 of AUC Rule 004; intake_code has their A5.24 codes. The numbers from 101, house
- * numbers, have no code and line 0. The sentence of a test, and that of 102, says what must hold; the others say when the number
- * is answered.
+ * numbers, have no code and line 0. The sentence of a test other than 6, and that of 102, says what must hold; the others say when
+ * the number is answered.
  *
  *   2    "every byte within a line is 32 to 126; field 3 is a known type; the field count is its table's. An empty line fails. A
  *        file of no bytes fails at line 1."
@@ -42,6 +42,9 @@
  *        DD, DM, CH, TH, OC, SH, FT. DM: DM, CH, TH, OC, SH, FT. CH: CH, TH, OC, SH, FT. OC: OC, SH, FT. FT: nothing. The first
  *        line is FH (otherwise line 1 fails) and the last FT (otherwise the last line fails). A4.4 prevails if it differs."
  *   5    "Mandatory fields are filled, but FH's Parent ID, called mandatory, must be empty."
+ *   6    "It fails exactly where such a condition holds and the field is empty." (the condition of a field that Tables 4-2 to 4-10
+ *        mark Conditional, where it "reads only fields of the same record or of its FH, SH or TH": TH 8 and 9, DU 9 to 15, DD 12
+ *        and 13, OC 7 and 8)
  *   7    "Commodity Code is EL or NG; Usage UOM is KWH for EL and GJ for NG; Cancel Indicator and GST exemption are Y or N. Other
  *        codes pass."
  *   8    "no file entry of this sender has FH's Record ID. Rejected files leave no trace."

@@ -44,6 +44,8 @@ about 'A cancel of -99.99 instead.'
 call $s/desk-a.csv $s/desk-cancel-of-another-amount.csv
 about "B's cancel sent again under new IDs."
 call $s/desk-a.csv $s/desk-b.csv $s/desk-cancel-sent-again.csv
+about 'A cancel without a reference, and then one with it.'
+call $s/desk-a.csv $s/cancel-without-reference.csv $s/desk-b.csv
 about 'C brings 31 January to 27 February, 50.00.'
 call $s/desk-a.csv $s/desk-b.csv $s/desk-c.csv --entries --find $site 20240131 --find $site 20240201
 about 'With one entry left, a file of FH and one OC; then with two.'
