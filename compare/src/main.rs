@@ -3,6 +3,7 @@
 //! `cargo run --release --offline` compares all; `cargo run --release --offline -- histories` compares lists of bookings alone. With
 //! `--record FILE` at the end some of the lists are written to a file, for host/histories.c.
 
+mod conditional;
 mod digest;
 mod fields;
 mod files;
