@@ -95,11 +95,12 @@ impl Bookings {
         Booking::new(&stored, MOST_ENTRIES, &draft)
     }
 
-    /// The same, but the last cancel has no Reference ID.
+    /// The same, but the last cancel names itself, which is no entry.
     pub fn cancels_without_the_last(&mut self, cancels: usize, others: usize) -> Booking {
         let (stored, mut draft) = self.cancels_draft(cancels, others);
         let place = *draft.places(|record| record.record_type == RecordType::PeriodHeader).last().expect("the file has cancels");
-        draft.records[place].set(8, "");
+        let record_id = draft.records[place].field(1).to_owned();
+        draft.records[place].set(8, record_id);
         Booking::new(&stored, MOST_ENTRIES, &draft)
     }
 

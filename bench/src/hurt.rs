@@ -7,7 +7,7 @@ use reference::generate::content::date;
 use reference::generate::draft::{Draft, DraftRecord};
 
 /// The tests that a file is made to fail near its end.
-pub const LATE_FAILURES: [u32; 11] = [2, 3, 5, 7, 9, 10, 14, 17, 18, 30, 32];
+pub const LATE_FAILURES: [u32; 12] = [2, 3, 5, 6, 7, 9, 10, 14, 17, 18, 30, 32];
 
 /// How many pairs of a Site Header and a record a file holds between its header and its trailer.
 const PAIRS: usize = MOST_LINES / 2 - 1;
@@ -31,6 +31,7 @@ fn make_wrong(draft: &mut Draft, test: u32, record_type: RecordType) {
         2 => record.fields.push(String::new()),
         3 => record.set(18, "1.000"),
         5 => record.set(18, ""),
+        6 => record.set(13, ""),
         7 => record.set(19, "n"),
         9 => record.set(1, earlier.field(1)),
         10 => record.set(2, earlier.field(1)),
@@ -47,6 +48,8 @@ impl Files {
     pub fn wrong_at_the_end(&mut self, test: u32) -> Vec<u8> {
         let (mut draft, record_type) = match test {
             2 | 3 | 5 | 7 | 9 | 10 | 17 => (self.many_sites_draft(MOST_LINES, Ids::Rising), RecordType::TariffCharge),
+            // The last usage of such a file is that of a cumulative meter of an energized site.
+            6 => (self.many_sites_draft(MOST_LINES, Ids::Rising), RecordType::UsageDeterminant),
             18 => (self.one_site_draft(MOST_LINES, 1_000), RecordType::PeriodHeader),
             30 => (self.many_sites_draft(MOST_LINES, Ids::Rising), RecordType::SiteHeader),
             _ => (self.many_sites_draft(MOST_LINES, Ids::Rising), RecordType::PeriodHeader),
