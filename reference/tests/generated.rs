@@ -74,6 +74,34 @@ fn valid_files_pass() {
     }
 }
 
+/// In the varied style each amount that isn't mandatory is often left out, and
+/// often 0.
+#[test]
+fn amounts_left_out() {
+    let mut generator = Generator::new(3, Style::Varied);
+    let mut counts = BTreeMap::new();
+    for _ in 0..300 {
+        let request = generator.full_request();
+        for record in &generator.valid(&request).records {
+            for number in record.record_type.optional_amount_fields() {
+                let [all, missing, zeros] =
+                    counts.entry((record.record_type.code(), number)).or_insert([0; 3]);
+                *all += 1;
+                match record.amount(number) {
+                    Amount::Missing => *missing += 1,
+                    Amount::Value(0) => *zeros += 1,
+                    Amount::Value(_) => {}
+                    Amount::Misses => panic!("{record:?} is valid"),
+                }
+            }
+        }
+    }
+    assert_eq!(counts.len(), 8);
+    for [all, missing, zeros] in counts.values() {
+        assert!(*all > 300 && missing * 4 > *all && zeros * 4 > *all, "{counts:?}");
+    }
+}
+
 /// How often a field was met.
 #[derive(Debug, Default)]
 struct Met {
