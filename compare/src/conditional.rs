@@ -90,6 +90,19 @@ fn hold_left_out(comparison: &mut Comparison, generator: &mut Generator, field: 
     };
     let proved = comparison.hold(RETAILER, b"0040", &draft.plain_bytes());
     assert_eq!(proved, expected, "{field:?} is left out, {way:?}");
+    if way == Holds {
+        hold_order(comparison, draft, expected);
+    }
+}
+
+/// Holds a file that 6 refuses with two more faults, "after 5 and before 7": a commodity that 7 refuses at the first line, and then a total
+/// that 5 misses at the last.
+fn hold_order(comparison: &mut Comparison, mut draft: Draft, refused: (u32, u32)) {
+    let lines = draft.records.len();
+    draft.records[0].set(6, "XX");
+    assert_eq!(comparison.hold(RETAILER, b"0040", &draft.plain_bytes()), refused);
+    draft.records[lines - 1].set(5, "");
+    assert_eq!(comparison.hold(RETAILER, b"0040", &draft.plain_bytes()), (5, lines as u32));
 }
 
 /// Holds each conditional field left out in each way, and counts them.
