@@ -30,7 +30,9 @@ const DD_RATCHET: usize = 11;
 
 const OC_REFERENCE: usize = 6;
 
-const TWO_FIELDS: usize = 2;
+const REFERENCE_AND_REASON: usize = 2;
+
+const DATE_TIME_AND_MONTHS: usize = 2;
 
 const METER_NUMBER_ALONE: usize = 1;
 
@@ -96,7 +98,7 @@ pub fn is_unpopulated<'a>(
             if numbers[TH_CANCEL_INDICATOR] != YES {
                 return false;
             }
-            some_empty(starts, ends, TH_REFERENCE, TWO_FIELDS)
+            some_empty(starts, ends, TH_REFERENCE, REFERENCE_AND_REASON)
         }
         tables::DU => {
             if numbers[DU_METER_TYPE] != CUMULATIVE {
@@ -113,13 +115,13 @@ pub fn is_unpopulated<'a>(
             if !is_ratchet(numbers[DD_DEMAND_TYPE]) {
                 return false;
             }
-            some_empty(starts, ends, DD_RATCHET, TWO_FIELDS)
+            some_empty(starts, ends, DD_RATCHET, DATE_TIME_AND_MONTHS)
         }
         tables::OC => {
             if numbers[OC_CANCEL_INDICATOR] != YES {
                 return false;
             }
-            some_empty(starts, ends, OC_REFERENCE, TWO_FIELDS)
+            some_empty(starts, ends, OC_REFERENCE, REFERENCE_AND_REASON)
         }
         _ => false,
     }

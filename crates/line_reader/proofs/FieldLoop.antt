@@ -1,14 +1,16 @@
 -- The loop over the fields of a line.
 --     Kept                                   the lists for numbers and places
 --     FieldsTo, fields-start, fields-more    the first k fields are read: the first three; one field more
+--     unread-next                            the next is none, or doesn't fit
 --     LineRead, fields-end                   all are: what is known of the line
 -- Assumes nothing.
 use mathlib.Core.Path.{_≡_, sym, _∙_, ap}
 use mathlib.Core.List.{List}
-use mathlib.Core.Bool.{Bool, false, not}
+use mathlib.Core.Bool.{Bool, true, false, not}
 use Prim.Native.Nat.{ℕ, _+_, _≤_, _<_}
 use native.Mathlib.Numerals.{add-one}
 use native.Mathlib.Omega.{arith}
+use native.Mathlib.Decide.{decLt}
 use lib.ListN.{length, getD, set, length-set}
 use lib.Seq.{getD-set-other}
 use Rattle.lists.specs.Below.{someBelow}
@@ -16,20 +18,22 @@ use Rattle.records.specs.Text.{fieldsOf}
 use Rattle.records.specs.InsidePlacedLines.{part}
 use Rattle.tables.specs.Types.{typeNamed}
 use Rattle.fields.specs.declared.FieldType.{FieldType}
+use Rattle.fields.specs.Fields.{fitsType}
 use Rattle.tables.specs.Tables.{fieldCount, fieldType}
 use Rattle.tables.proofs.Laws.{count-most}
 use Rattle.format.specs.Format.{isPrintable, someField, unfilled}
 use Rattle.readings.specs.declared.Reading.{Reading}
+use Rattle.readings.specs.InsideLeadingBytes.{leadingField}
 use Rattle.readings.specs.InsideReadings.{FieldRead}
 use Rattle.codes_and_rows.specs.InsideFields.{fieldAfter, NumbersRead}
 use Rattle.conditional_fields.specs.InsideRecords.{RecordRead}
 use Rattle.codes_and_rows.proofs.Codes.{same-fields, type-is, field-of}
 use Rattle.line_reader.specs.declared.Head.{Head}
 use Rattle.line_reader.specs.InsideLineReader.{unread, ReadTo, FilledTo, HeadRead}
-use Rattle.line_reader.proofs.Fields.{rest-end, read-more, field-fits}
+use Rattle.line_reader.proofs.Fields.{rest-end, field-there, field-is, read-more, field-fits}
 use Rattle.line_reader.proofs.Filled.{filled-line}
 use Rattle.line_reader.proofs.Heads.{head-read}
-use Rattle.line_reader.proofs.Unread.{read-line}
+use Rattle.line_reader.proofs.Unread.{unread-count, unread-field, read-line}
 
 -- the lists for numbers and places keep their lengths, and there is no field 0
 pub record Kept (numbers bs es : List ℕ) : Type 0 where
@@ -70,6 +74,17 @@ fields-more {k = k} {numbers = numbers} f low high small {r = r} same read flag 
         ends = simp length-set (kept .ends);
       };
     }
+
+-- the line fails where there is no field after k others and there should be, or there is and it doesn't fit
+pub unread-next : {file line : List ℕ} {type k a e : ℕ} {numbers bs es : List ℕ} → ReadTo file line type k a e numbers bs es → type ≡ typeNamed (fieldAfter line 2) → e ≤ length file
+    → k < fieldCount type → (a ≤ e → fitsType (fieldType type k) (leadingField (part file a e)) ≡ false) → unread line ≡ true
+unread-next {file} {line} {type} {k} {a} {e} r named high there misses = go (decLt e a)
+  where
+    go : Dec (e < a) → unread line ≡ true
+    go (yes past) = unread-count line type named (λ z. omega (arith, z, rest-end r past))
+    go (no l) =
+        let low : a ≤ e = omega (arith, l) in
+        unread-field line type named k (field-there r low high) (ap (λ (f : List ℕ). fitsType (fieldType type k) f) (field-is r low high) ∙ misses low)
 
 -- what is known of a line whose fields are all read
 pub record LineRead (file line : List ℕ) (type : ℕ) (flag : Bool) (numbers bs es : List ℕ) : Type 0 where

@@ -4,7 +4,7 @@
 use Prim.Native.Nat.{ℕ, _+_, _-_, _≤_, _<_}
 use mathlib.Core.Path.{_≡_}
 use mathlib.Core.List.{List, []}
-use mathlib.Core.Bool.{Bool, false, cond, not, _&&_, _||_}
+use mathlib.Core.Bool.{Bool, true, false, cond, not, _&&_, _||_}
 use lib.ListN.{length, drop, getD}
 use lib.Dec.{eqb, leb}
 use Rattle.lists.specs.Below.{firstBelow, someBelow}
@@ -16,7 +16,11 @@ use Rattle.tables.specs.Types.{FH, TH, typeNamed}
 use Rattle.records.specs.Records.{field, typeIn}
 use Rattle.tables.specs.Tables.{isMandatory}
 use Rattle.columns.specs.InsideColumns.{ColumnsRead}
-use Rattle.readings.specs.InsideLeadingBytes.{packed}
+use Rattle.fields.specs.declared.FieldType.{FieldType}
+use Rattle.fields.specs.Fields.{fitsType}
+use Rattle.readings.specs.declared.Reading.{Reading}
+use Rattle.readings.specs.InsideLeadingBytes.{packed, leadingField}
+use Rattle.readings.specs.InsideReadings.{FieldRead}
 use Rattle.format.specs.Conditional.{firstUnpopulated}
 use Rattle.format.specs.Format.{isPrintable, lineAt, isEmpty, unformatted, someField, unfit, firstUnfilled, firstMiscoded}
 use Rattle.codes_and_rows.specs.InsideFields.{FieldFits, fieldAfter}
@@ -42,6 +46,12 @@ pub record ReadTo (file line : List ℕ) (type k a e : ℕ) (numbers bs es : Lis
   pub rest : drop k (fieldsOf line) ≡ restAt file a e
   pub stands : (j : ℕ) → j < k → FieldFits type j (fieldAfter line j) (getD numbers (j + 1) 0)
   pub placed : (j : ℕ) → j < k → At file (getD bs j 0) (getD es j 0) (fieldAfter line j)
+
+-- r is read of the field of a type that begins at a, of a line that ends at e: there is none past its end
+pub record NextTold (t : FieldType) (file : List ℕ) (a e : ℕ) (r : Reading) : Type 0 where
+  pub inside : r .fits ≡ true → a ≤ e
+  pub read : r .fits ≡ true → FieldRead t (part file a e) r
+  pub misses : r .fits ≡ false → a ≤ e → fitsType t (leadingField (part file a e)) ≡ false
 
 -- `unfilled`, of a record's type and its line
 unfoldable pub unfilledAt : ℕ → List ℕ → ℕ → Bool

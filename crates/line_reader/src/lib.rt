@@ -6,14 +6,18 @@ ghost use Prim.Native.Nat.{ℕ, _≤_, _<_};
 ghost use lib.Dec.{eqb};
 ghost use lib.ListN.{length, set, replicate};
 ghost use Rattle.lists.specs.Written.{written};
+ghost use Rattle.calendar.specs.InsideFirstDays.{firstDays};
 ghost use Rattle.records.specs.Text.{linesOf};
 ghost use Rattle.records.specs.InsidePlacedLines.{part, Placed};
 ghost use Rattle.columns.specs.InsideColumns.{Room};
 ghost use Rattle.tables.specs.Types.{TH};
+ghost use Rattle.tables.specs.InsideCodes.{typeOfCode};
 ghost use Rattle.readings.specs.InsideLeadingBytes.{packed};
+ghost use Rattle.readings.specs.InsideReadings.{isNarrow};
 ghost use Rattle.format.specs.Format.{lineAt, unformatted, firstUnformatted};
-ghost use Rattle.line_reader.specs.InsideLineReader.{unread, headFilled, LineLent, HeadRead, LineKept, LinesTold};
+ghost use Rattle.line_reader.specs.InsideLineReader.{unread, headFilled, LineLent, HeadRead, LineKept, NextTold, LinesTold};
 use conditional_fields::is_unpopulated;
+use readings::Reading;
 use records::Record;
 
 // What is answered of a file's lines: the line at which the reader stopped, or their number; then, where it read them all, the first lines that fail
@@ -206,6 +210,17 @@ fn with_line(
     }
 }
 
+// The field that begins at a, of a line that ends at e and has no field past its end.
+fn read_next(days: &[u64], code: usize, file: &[u8], a: usize, e: usize) -> Reading
+    requires { ⌜ (now days ≡ firstDays) × (isNarrow (typeOfCode code) ≡ true) × (e ≤ length (now file)) ⌝ }
+    ensures { λ r. ⌜ NextTold (typeOfCode code) (now (file .entry)) a e r ⌝ }
+{
+    if e < a {
+        return readings::misses();
+    }
+    readings::read_field(days, code, &file[a..e])
+}
+
 // Reads each of n lines, into the columns, up to the first that fails test 2 or 3; read.stopped is the line that is read next.
 pub fn read_lines(
     file: &[u8],
@@ -246,10 +261,7 @@ pub fn read_lines(
         let mut a = head.type_end + 1;
         let mut k: usize = 3;
         while k < count {
-            if e < a {
-                break 'records;
-            }
-            let field = readings::read_field(&days, codes[row + k], &file[a..e]);
+            let field = read_next(&days, codes[row + k], file, a, e);
             let fits = field.fits;
             let len = field.len;
             if !fits {

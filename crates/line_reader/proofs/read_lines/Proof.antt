@@ -21,17 +21,16 @@ use Rattle.columns.proofs.Rows.{Reading, reading-none, reading-end}
 use Rattle.format.specs.Format.{lineAt}
 use Rattle.tables.specs.InsideCodes.{typeOfCode}
 use Rattle.tables.proofs.Laws.{count-most}
-use Rattle.tables.specs.Tables.{fieldType}
 use Rattle.records.proofs.Placed.{placed-at}
 use Rattle.records.specs.Text.{linesOf}
 use Rattle.records.specs.InsidePlacedLines.{part, At}
 use Rattle.line_reader.specs.InsideLineReader.{unread, firstUnread, FilledTo, HeadRead, LinesTold}
-use Rattle.line_reader.proofs.Unread.{unread-count, unread-field, first-none}
+use Rattle.line_reader.proofs.Unread.{unread-count, first-none}
 use Rattle.line_reader.proofs.Lines.{LinesTo, lines-none, lines-more, lines-end, stops, line-stored}
 use Rattle.line_reader.proofs.Heads.{count-least}
 use Rattle.line_reader.proofs.Filled.{filled-more, mark-field, flag-empty, flag-some}
-use Rattle.line_reader.proofs.Fields.{end-inside, rest-end, field-there, field-is, code-narrow, code-type}
-use Rattle.line_reader.proofs.FieldLoop.{Kept, FieldsTo, fields-start, fields-more, LineRead, fields-end}
+use Rattle.line_reader.proofs.Fields.{end-inside, field-there, field-is, code-narrow, code-type}
+use Rattle.line_reader.proofs.FieldLoop.{Kept, FieldsTo, fields-start, fields-more, unread-next, LineRead, fields-end}
 use Rattle.line_reader.proofs.read_lines.Statement.{statement}
 use Rattle.line_reader.proofs.read_lines.Tie as tie
 
@@ -76,29 +75,29 @@ head c = c .before .read-head .ensures .0 (known c)
 few : (c : tie.After-field-count Inv-loop μ-loop Inv-records μ-records) → c .field-count .result ≤ 19
 few c = omega (arith, c .field-count .ensures, count-most (c .before .before .before .before .before .before .read-head .result .record_type) (known (c .before .before .before .before .before)))
 
--- the field that was read
-read : (c : tie.Else4 Inv-loop μ-loop Inv-records μ-records) → let a = c .before .before .before .before .before .before .before .before .before .before .before .before .before .before .before .before .before .before .before .before .before .before .before .before .before .before .before .before .before .before .before .before .before .args in
-    FieldRead (typeOfCode (getD (c .before .before .before .before .before .before .before .before .before .before .before .before .before .before .before .before .before .before .before .before .before .before .before .before .before .codes .result) (c .before .before .before .before .before .before .before .before .before .before .before .before .before .before .read-head .result .record_type * 19 + c .before .before .before .before .before .before .loop .k) 0)) (part (now (a .file)) (c .before .before .before .before .before .before .loop .a) (getD (now (a .ends)) (c .before .before .before .before .before .before .before .before .before .before .before .before .before .before .before .before .before .before .before .before .records .read .stopped) 0)) (c .before .read-field .result)
-read c = c .before .read-field .ensures .0 (not-false _ (c .if4 .left))
+-- the field that was read, and the line's end is not before it
+read : (c : tie.Else3 Inv-loop μ-loop Inv-records μ-records) → let a = c .before .before .before .before .before .before .before .before .before .before .before .before .before .before .before .before .before .before .before .before .before .before .before .before .before .before .before .before .before .before .before .args in
+    FieldRead (typeOfCode (getD (c .before .before .before .before .before .before .before .before .before .before .before .before .before .before .before .before .before .before .before .before .before .before .before .codes .result) (c .before .before .before .before .before .before .before .before .before .before .before .before .read-head .result .record_type * 19 + c .before .before .before .before .loop .k) 0)) (part (now (a .file)) (c .before .before .before .before .loop .a) (getD (now (a .ends)) (c .before .before .before .before .before .before .before .before .before .before .before .before .before .before .before .before .before .before .records .read .stopped) 0)) (c .before .read-next .result)
+read c = c .before .read-next .ensures .read (not-false _ (c .if3 .left))
 
-low : (c : tie.Else3 Inv-loop μ-loop Inv-records μ-records) → c .before .before .loop .a ≤ getD (now (c .before .before .before .before .before .before .before .before .before .before .before .before .before .before .before .before .before .before .before .before .before .before .before .before .before .before .before .before .before .args .ends)) (c .before .before .before .before .before .before .before .before .before .before .before .before .before .before .before .before .records .read .stopped) 0
-low c = omega (arith, c .if3 .left)
+low : (c : tie.Else3 Inv-loop μ-loop Inv-records μ-records) → c .before .before .before .before .loop .a ≤ getD (now (c .before .before .before .before .before .before .before .before .before .before .before .before .before .before .before .before .before .before .before .before .before .before .before .before .before .before .before .before .before .before .before .args .ends)) (c .before .before .before .before .before .before .before .before .before .before .before .before .before .before .before .before .before .before .records .read .stopped) 0
+low c = c .before .read-next .ensures .inside (not-false _ (c .if3 .left))
 
-inside : (c : tie.Else4 Inv-loop μ-loop Inv-records μ-records) → c .before .before .before .before .before .before .loop .a + c .before .read-field .result .len ≤ getD (now (c .before .before .before .before .before .before .before .before .before .before .before .before .before .before .before .before .before .before .before .before .before .before .before .before .before .before .before .before .before .before .before .before .before .args .ends)) (c .before .before .before .before .before .before .before .before .before .before .before .before .before .before .before .before .before .before .before .before .records .read .stopped) 0
-inside c = omega (arith, read c .ends, end-inside (now (c .before .before .before .before .before .before .before .before .before .before .before .before .before .before .before .before .before .before .before .before .before .before .before .before .before .before .before .before .before .before .before .before .before .args .file)) (c .before .before .before .before .before .before .loop .a) (getD (now (c .before .before .before .before .before .before .before .before .before .before .before .before .before .before .before .before .before .before .before .before .before .before .before .before .before .before .before .before .before .before .before .before .before .args .ends)) (c .before .before .before .before .before .before .before .before .before .before .before .before .before .before .before .before .before .before .before .before .records .read .stopped) 0) (low (c .before .before .before .before)) (place (c .before .before .before .before .before .before .before .before .before .before .before .before .before .before .before .before .before .before) .high))
+inside : (c : tie.Else3 Inv-loop μ-loop Inv-records μ-records) → c .before .before .before .before .loop .a + c .before .read-next .result .len ≤ getD (now (c .before .before .before .before .before .before .before .before .before .before .before .before .before .before .before .before .before .before .before .before .before .before .before .before .before .before .before .before .before .before .before .args .ends)) (c .before .before .before .before .before .before .before .before .before .before .before .before .before .before .before .before .before .before .records .read .stopped) 0
+inside c = omega (arith, read c .ends, end-inside (now (c .before .before .before .before .before .before .before .before .before .before .before .before .before .before .before .before .before .before .before .before .before .before .before .before .before .before .before .before .before .before .before .args .file)) (c .before .before .before .before .loop .a) (getD (now (c .before .before .before .before .before .before .before .before .before .before .before .before .before .before .before .before .before .before .before .before .before .before .before .before .before .before .before .before .before .before .before .args .ends)) (c .before .before .before .before .before .before .before .before .before .before .before .before .before .before .before .before .before .before .records .read .stopped) 0) (low c) (place (c .before .before .before .before .before .before .before .before .before .before .before .before .before .before .before .before) .high))
 
 -- whether the fields are filled, that field with them
-flag : (c : tie.Joined5 Inv-loop μ-loop Inv-records μ-records) → let a = c .before .before .before .before .before .before .before .before .before .before .before .before .before .before .before .before .before .before .before .before .before .before .before .before .before .before .before .before .before .before .before .before .before .before .args in let i = c .before .before .before .before .before .before .before .before .before .before .before .before .before .before .before .before .before .before .before .before .before .records .read .stopped in
-    FilledTo (c .before .before .before .before .before .before .before .before .before .before .before .before .before .before .before .read-head .result .record_type) (part (now (a .file)) (getD (now (a .starts)) i 0) (getD (now (a .ends)) i 0)) (c .before .before .before .before .before .before .before .loop .k + 1) (c .if5 .filled)
+flag : (c : tie.Joined4 Inv-loop μ-loop Inv-records μ-records) → let a = c .before .before .before .before .before .before .before .before .before .before .before .before .before .before .before .before .before .before .before .before .before .before .before .before .before .before .before .before .before .before .before .before .args in let i = c .before .before .before .before .before .before .before .before .before .before .before .before .before .before .before .before .before .before .before .records .read .stopped in
+    FilledTo (c .before .before .before .before .before .before .before .before .before .before .before .before .before .read-head .result .record_type) (part (now (a .file)) (getD (now (a .starts)) i 0) (getD (now (a .ends)) i 0)) (c .before .before .before .before .before .loop .k + 1) (c .if4 .filled)
 flag c =
-    let p = c .before .before .before .before .before .before .before .loop in
-    let type = c .before .before .before .before .before .before .before .before .before .before .before .before .before .before .before .read-head .result .record_type in
-    let long = read (c .before) .ends ∙ sym (ap length (field-is (p .inv .2 .read) (low (c .before .before .before .before .before)) (place (c .before .before .before .before .before .before .before .before .before .before .before .before .before .before .before .before .before .before .before) .high)) ∙ field-length _) in
-    let mark = getD (c .before .before .before .before .before .before .before .before .before .before .before .before .before .before .before .before .before .before .before .before .before .before .before .before .before .marks .result) (type * 19 + p .k) false in
-    let len = c .before .before .read-field .result .len in
-    let asked = mark-field type _ (c .before .before .before .before .before .before .before .before .before .before .before .before .before .before .before .before .before .before .before .before .before .before .before .before .before .marks .ensures) (known (c .before .before .before .before .before .before .before .before .before .before .before .before .before .before)) (p .k) (p .inv .0) (omega (arith, few (c .before .before .before .before .before .before .before .before .before), c .before .before .before .before .before .before .loop-test .taken)) long in
+    let p = c .before .before .before .before .before .loop in
+    let type = c .before .before .before .before .before .before .before .before .before .before .before .before .before .read-head .result .record_type in
+    let long = read (c .before) .ends ∙ sym (ap length (field-is (p .inv .2 .read) (low (c .before)) (place (c .before .before .before .before .before .before .before .before .before .before .before .before .before .before .before .before .before) .high)) ∙ field-length _) in
+    let mark = getD (c .before .before .before .before .before .before .before .before .before .before .before .before .before .before .before .before .before .before .before .before .before .before .before .marks .result) (type * 19 + p .k) false in
+    let len = c .before .before .read-next .result .len in
+    let asked = mark-field type _ (c .before .before .before .before .before .before .before .before .before .before .before .before .before .before .before .before .before .before .before .before .before .before .before .marks .ensures) (known (c .before .before .before .before .before .before .before .before .before .before .before .before)) (p .k) (p .inv .0) (omega (arith, few (c .before .before .before .before .before .before .before), c .before .before .before .before .loop-test .taken)) long in
     filled-more type _ (p .k) (p .inv .2 .flag) asked
-    (⊎-elim (λ w. flag-empty (p .filled) mark len (w .0 .taken) (w .1)) (λ w. flag-some (p .filled) mark len (w .0 .left) (w .1)) (c .if5 .came))
+    (⊎-elim (λ w. flag-empty (p .filled) mark len (w .0 .taken) (w .1)) (λ w. flag-some (p .filled) mark len (w .0 .left) (w .1)) (c .if4 .came))
 
 records-holds : tie.Need-records-holds Inv-loop μ-loop Inv-records μ-records
 records-holds c = (
@@ -139,68 +138,65 @@ loop-holds c = (
   fields-start (head (c .before .before .before .before .before .before)) (c .before .before .before .before .before .before .before .before .before .before .before .before .before .records .«record» .starts) (c .before .before .before .before .before .before .before .before .before .before .before .before .before .records .«record» .ends) (c .before .before .before .before .before .before .before .before .before .before .before .before .before .records .inv .3 .starts) (c .before .before .before .before .before .before .before .before .before .before .before .before .before .records .inv .3 .ends) (c .before .before .before .before .place-three .ensures) (c .before .before .place-three2 .ensures),
 )
 
-slice-aggregate-read-field : tie.Need-slice-aggregate-read-field Inv-loop μ-loop Inv-records μ-records
-slice-aggregate-read-field c = sym (ap length (c .before .before .before .before .before .before .before .before .before .before .before .before .before .before .before .before .before .before .before .before .before .before .before .first-days .ensures) ∙ table-length)
+slice-aggregate-read-next : tie.Need-slice-aggregate-read-next Inv-loop μ-loop Inv-records μ-records
+slice-aggregate-read-next c = sym (ap length (c .before .before .before .before .before .before .before .before .before .before .before .before .before .before .before .before .before .before .before .before .before .before .first-days .ensures) ∙ table-length)
 
-add-read-field : tie.Need-add-read-field Inv-loop μ-loop Inv-records μ-records
-add-read-field c = omega (arith, known (c .before .before .before .before .before .before .before .before .before .before), few (c .before .before .before .before .before))
+add-read-next : tie.Need-add-read-next Inv-loop μ-loop Inv-records μ-records
+add-read-next c = omega (arith, known (c .before .before .before .before .before .before .before .before .before), few (c .before .before .before .before))
 
-mul-read-field : tie.Need-mul-read-field Inv-loop μ-loop Inv-records μ-records
-mul-read-field c = omega (arith, known (c .before .before .before .before .before .before .before .before .before .before), few (c .before .before .before .before .before))
+mul-read-next : tie.Need-mul-read-next Inv-loop μ-loop Inv-records μ-records
+mul-read-next c = omega (arith, known (c .before .before .before .before .before .before .before .before .before), few (c .before .before .before .before))
 
-array-read-read-field : tie.Need-array-read-read-field Inv-loop μ-loop Inv-records μ-records
-array-read-read-field c = omega (arith, known (c .before .before .before .before .before .before .before .before .before .before), few (c .before .before .before .before .before))
+array-read-read-next : tie.Need-array-read-read-next Inv-loop μ-loop Inv-records μ-records
+array-read-read-next c = omega (arith, known (c .before .before .before .before .before .before .before .before .before), few (c .before .before .before .before))
 
-part-read-field-end : tie.Need-part-read-field-end Inv-loop μ-loop Inv-records μ-records
-part-read-field-end c = place (c .before .before .before .before .before .before .before .before .before .before .before .before .before .before .before) .high
-
-read-field-requires : tie.Need-read-field-requires Inv-loop μ-loop Inv-records μ-records
-read-field-requires c κs = (c .before .before .before .before .before .before .before .before .before .before .before .before .before .before .before .before .before .before .before .before .before .before .before .before .first-days .ensures, code-narrow (c .before .before .before .before .before .before .before .before .before .before .before .before .read-head .result .record_type) (c .before .before .before .before .loop .k) (known (c .before .before .before .before .before .before .before .before .before .before .before)) (omega (arith, few (c .before .before .before .before .before .before))) (c .before .before .before .before .before .before .before .before .before .before .before .before .before .before .before .before .before .before .before .before .before .before .before .codes .ensures))
+read-next-requires : tie.Need-read-next-requires Inv-loop μ-loop Inv-records μ-records
+read-next-requires c κs = (c .before .before .before .before .before .before .before .before .before .before .before .before .before .before .before .before .before .before .before .before .before .before .first-days .ensures, code-narrow (c .before .before .before .before .before .before .before .before .before .before .read-head .result .record_type) (c .before .before .loop .k) (known (c .before .before .before .before .before .before .before .before .before)) (omega (arith, few (c .before .before .before .before))) (c .before .before .before .before .before .before .before .before .before .before .before .before .before .before .before .before .before .before .before .before .before .codes .ensures), place (c .before .before .before .before .before .before .before .before .before .before .before .before .before .before) .high)
 
 add-filled : tie.Need-add-filled Inv-loop μ-loop Inv-records μ-records
-add-filled c = omega (arith, known (c .before .before .before .before .before .before .before .before .before .before .before .before .before .before), few (c .before .before .before .before .before .before .before .before .before))
+add-filled c = omega (arith, known (c .before .before .before .before .before .before .before .before .before .before .before .before), few (c .before .before .before .before .before .before .before))
 
 array-read-filled : tie.Need-array-read-filled Inv-loop μ-loop Inv-records μ-records
-array-read-filled c = omega (arith, known (c .before .before .before .before .before .before .before .before .before .before .before .before .before .before), few (c .before .before .before .before .before .before .before .before .before))
+array-read-filled c = omega (arith, known (c .before .before .before .before .before .before .before .before .before .before .before .before), few (c .before .before .before .before .before .before .before))
 
 mul-record : tie.Need-mul-record Inv-loop μ-loop Inv-records μ-records
-mul-record c = omega (arith, few (c .before .before .before .before .before .before .before .before .before))
+mul-record c = omega (arith, few (c .before .before .before .before .before .before .before))
 
 element-write-record : tie.Need-element-write-record Inv-loop μ-loop Inv-records μ-records
-element-write-record c = omega (arith, few (c .before .before .before .before .before .before .before .before .before), c .before .before .before .before .before .before .before .loop .inv .2 .kept .starts)
+element-write-record c = omega (arith, few (c .before .before .before .before .before .before .before), c .before .before .before .before .before .loop .inv .2 .kept .starts)
 
 add-record : tie.Need-add-record Inv-loop μ-loop Inv-records μ-records
-add-record c = omega (arith, inside (c .before), place (c .before .before .before .before .before .before .before .before .before .before .before .before .before .before .before .before .before .before .before) .high, size (c .before .before .before .before .before .before .before .before .before .before .before .before .before .before .before .before .before .before .before))
+add-record c = omega (arith, inside (c .before), place (c .before .before .before .before .before .before .before .before .before .before .before .before .before .before .before .before .before) .high, size (c .before .before .before .before .before .before .before .before .before .before .before .before .before .before .before .before .before))
 
 mul-record-2 : tie.Need-mul-record-2 Inv-loop μ-loop Inv-records μ-records
-mul-record-2 c = omega (arith, few (c .before .before .before .before .before .before .before .before .before))
+mul-record-2 c = omega (arith, few (c .before .before .before .before .before .before .before))
 
 element-write-record-2 : tie.Need-element-write-record-2 Inv-loop μ-loop Inv-records μ-records
-element-write-record-2 c = omega (arith, few (c .before .before .before .before .before .before .before .before .before), c .before .before .before .before .before .before .before .loop .inv .2 .kept .ends)
+element-write-record-2 c = omega (arith, few (c .before .before .before .before .before .before .before), c .before .before .before .before .before .loop .inv .2 .kept .ends)
 
 mul-numbers : tie.Need-mul-numbers Inv-loop μ-loop Inv-records μ-records
-mul-numbers c = omega (arith, few (c .before .before .before .before .before .before .before .before .before))
+mul-numbers c = omega (arith, few (c .before .before .before .before .before .before .before))
 
 array-write-numbers : tie.Need-array-write-numbers Inv-loop μ-loop Inv-records μ-records
-array-write-numbers c = omega (arith, few (c .before .before .before .before .before .before .before .before .before), c .before .before .before .before .before .before .before .loop .inv .2 .kept .size)
+array-write-numbers c = omega (arith, few (c .before .before .before .before .before .before .before), c .before .before .before .before .before .loop .inv .2 .kept .size)
 
 add-a-2 : tie.Need-add-a-2 Inv-loop μ-loop Inv-records μ-records
-add-a-2 c = omega (arith, inside (c .before), place (c .before .before .before .before .before .before .before .before .before .before .before .before .before .before .before .before .before .before .before) .high, size (c .before .before .before .before .before .before .before .before .before .before .before .before .before .before .before .before .before .before .before))
+add-a-2 c = omega (arith, inside (c .before), place (c .before .before .before .before .before .before .before .before .before .before .before .before .before .before .before .before .before) .high, size (c .before .before .before .before .before .before .before .before .before .before .before .before .before .before .before .before .before))
 
 add-a-3 : tie.Need-add-a-3 Inv-loop μ-loop Inv-records μ-records
-add-a-3 c = omega (arith, inside (c .before), place (c .before .before .before .before .before .before .before .before .before .before .before .before .before .before .before .before .before .before .before) .high, size (c .before .before .before .before .before .before .before .before .before .before .before .before .before .before .before .before .before .before .before))
+add-a-3 c = omega (arith, inside (c .before), place (c .before .before .before .before .before .before .before .before .before .before .before .before .before .before .before .before .before) .high, size (c .before .before .before .before .before .before .before .before .before .before .before .before .before .before .before .before .before))
 
 loop-again : tie.Need-loop-again Inv-loop μ-loop Inv-records μ-records
 loop-again c =
-    let p = c .before .before .before .before .before .before .before .loop in
-    let small : p .k < 19 = omega (arith, few (c .before .before .before .before .before .before .before .before .before), c .before .before .before .before .before .before .loop-test .taken) in (
+    let p = c .before .before .before .before .before .loop in
+    let small : p .k < 19 = omega (arith, few (c .before .before .before .before .before .before .before), c .before .before .before .before .loop-test .taken) in (
       omega (arith, p .inv .0),
-      omega (arith, c .before .before .before .before .before .before .loop-test .taken),
-      fields-more (p .inv .2) (low (c .before .before .before .before .before)) (place (c .before .before .before .before .before .before .before .before .before .before .before .before .before .before .before .before .before .before .before) .high) small (code-type (c .before .before .before .before .before .before .before .before .before .before .before .before .before .before .before .read-head .result .record_type) (p .k) (known (c .before .before .before .before .before .before .before .before .before .before .before .before .before .before)) small (c .before .before .before .before .before .before .before .before .before .before .before .before .before .before .before .before .before .before .before .before .before .before .before .before .before .before .codes .ensures)) (read (c .before)) (flag c),
+      omega (arith, c .before .before .before .before .loop-test .taken),
+      fields-more (p .inv .2) (low (c .before)) (place (c .before .before .before .before .before .before .before .before .before .before .before .before .before .before .before .before .before) .high) small (code-type (c .before .before .before .before .before .before .before .before .before .before .before .before .before .read-head .result .record_type) (p .k) (known (c .before .before .before .before .before .before .before .before .before .before .before .before)) small (c .before .before .before .before .before .before .before .before .before .before .before .before .before .before .before .before .before .before .before .before .before .before .before .before .codes .ensures)) (read (c .before)) (flag c),
     )
 
 -- all fields are read
-done : (c : tie.Else6 Inv-loop μ-loop Inv-records μ-records) → let a = c .before .before .before .before .before .before .before .before .before .before .before .before .before .before .before .before .before .before .before .before .before .before .before .before .before .before .before .before .before .args in let i = c .before .before .before .before .before .before .before .before .before .before .before .before .before .before .before .before .records .read .stopped in let p = c .before .before .loop in
+done : (c : tie.Else5 Inv-loop μ-loop Inv-records μ-records) → let a = c .before .before .before .before .before .before .before .before .before .before .before .before .before .before .before .before .before .before .before .before .before .before .before .before .before .before .before .before .before .args in let i = c .before .before .before .before .before .before .before .before .before .before .before .before .before .before .before .before .records .read .stopped in let p = c .before .before .loop in
     FieldsTo (now (a .file)) (part (now (a .file)) (getD (now (a .starts)) i 0) (getD (now (a .ends)) i 0)) (c .before .before .before .before .before .before .before .before .before .before .read-head .result .record_type) (c .before .before .before .before .field-count .result) (p .a) (getD (now (a .ends)) i 0) (p .filled) (p .numbers) (p .«record» .starts) (p .«record» .ends)
 done c =
     let a = c .before .before .before .before .before .before .before .before .before .before .before .before .before .before .before .before .before .before .before .before .before .before .before .before .before .before .before .before .before .args in
@@ -209,11 +205,11 @@ done c =
     let all : p .k ≡ c .before .before .before .before .field-count .result = omega (arith, p .inv .1, c .before .loop-test .left) in
     subst (λ (k : ℕ). FieldsTo (now (a .file)) (part (now (a .file)) (getD (now (a .starts)) i 0) (getD (now (a .ends)) i 0)) (c .before .before .before .before .before .before .before .before .before .before .read-head .result .record_type) k (p .a) (getD (now (a .ends)) i 0) (p .filled) (p .numbers) (p .«record» .starts) (p .«record» .ends)) all (p .inv .2)
 
-past : (c : tie.Else6 Inv-loop μ-loop Inv-records μ-records) → getD (now (c .before .before .before .before .before .before .before .before .before .before .before .before .before .before .before .before .before .before .before .before .before .before .before .before .before .before .before .before .before .args .ends)) (c .before .before .before .before .before .before .before .before .before .before .before .before .before .before .before .before .records .read .stopped) 0 < c .before .before .loop .a
-past c = omega (arith, c .if6 .left)
+past : (c : tie.Else5 Inv-loop μ-loop Inv-records μ-records) → getD (now (c .before .before .before .before .before .before .before .before .before .before .before .before .before .before .before .before .before .before .before .before .before .before .before .before .before .before .before .before .before .args .ends)) (c .before .before .before .before .before .before .before .before .before .before .before .before .before .before .before .before .records .read .stopped) 0 < c .before .before .loop .a
+past c = omega (arith, c .if5 .left)
 
 -- so the line is
-line : (c : tie.Else6 Inv-loop μ-loop Inv-records μ-records) → let p = c .before .before .loop in
+line : (c : tie.Else5 Inv-loop μ-loop Inv-records μ-records) → let p = c .before .before .loop in
     LineRead (now (c .before .before .before .before .before .before .before .before .before .before .before .before .before .before .before .before .before .before .before .before .before .before .before .before .before .before .before .before .before .args .file)) (lineAt (linesAt (c .before .before .before .before .before .before .before .before .before .before .before .before .before .before .before .before .before .before .before .before .before .before .before .before .before .before .before .before .before)) (c .before .before .before .before .before .before .before .before .before .before .before .before .before .before .before .before .records .read .stopped)) (c .before .before .before .before .before .before .before .before .before .before .read-head .result .record_type) (p .filled) (p .numbers) (p .«record» .starts) (p .«record» .ends)
 line c =
     let p = c .before .before .loop in
@@ -280,48 +276,35 @@ returns-2 : tie.Need-returns-2 Inv-loop μ-loop Inv-records μ-records
 returns-2 c = fails (c .before .before .before .before .before) (c .before .read-head .ensures .1 (omega (arith, c .if2 .taken)))
 
 same-length-7 : tie.Need-same-length-7 Inv-loop μ-loop Inv-records μ-records
-same-length-7 c = wide (c .before .before .before .before .before .before .before .before .before .before .before .before .before .before .before .before)
+same-length-7 c = wide (c .before .before .before .before .before .before .before .before .before .before .before .before .before .before .before .before .before .before)
 
 same-length-8 : tie.Need-same-length-8 Inv-loop μ-loop Inv-records μ-records
-same-length-8 c = c .before .before .before .before .before .before .before .before .before .before .before .before .before .before .before .before .records .inv .2 .charge .size
+same-length-8 c = c .before .before .before .before .before .before .before .before .before .before .before .before .before .before .before .before .before .before .records .inv .2 .charge .size
 
 same-length-9 : tie.Need-same-length-9 Inv-loop μ-loop Inv-records μ-records
-same-length-9 c = c .before .before .before .before .before .before .before .before .before .before .before .before .before .before .before .before .records .inv .2 .usage .size
+same-length-9 c = c .before .before .before .before .before .before .before .before .before .before .before .before .before .before .before .before .before .before .records .inv .2 .usage .size
 
 returns-3 : tie.Need-returns-3 Inv-loop μ-loop Inv-records μ-records
-returns-3 c = fails (c .before .before .before .before .before .before .before .before .before .before .before .before .before .before) (unread-count _ (c .before .before .before .before .before .before .before .before .before .before .read-head .result .record_type) (head (c .before .before .before .before .before .before .before .before .before) .type) (λ z. omega (arith, z, rest-end (c .before .before .loop .inv .2 .read) (omega (arith, c .if3 .taken)), c .before .loop-test .taken, c .before .before .before .before .field-count .ensures)))
+returns-3 c =
+    let p = c .before .before .before .before .loop in
+    let type = c .before .before .before .before .before .before .before .before .before .before .before .before .read-head .result .record_type in
+    let a = c .before .before .before .before .before .before .before .before .before .before .before .before .before .before .before .before .before .before .before .before .before .before .before .before .before .before .before .before .before .before .before .args in
+    let small : p .k < 19 = omega (arith, few (c .before .before .before .before .before .before), c .before .before .before .loop-test .taken) in
+    fails (c .before .before .before .before .before .before .before .before .before .before .before .before .before .before .before .before)
+    (unread-next (p .inv .2 .read) (head (c .before .before .before .before .before .before .before .before .before .before .before) .type) (place (c .before .before .before .before .before .before .before .before .before .before .before .before .before .before .before .before) .high) (omega (arith, c .before .before .before .loop-test .taken, c .before .before .before .before .before .before .field-count .ensures))
+    (λ l. subst (λ (t : FieldType). fitsType t (leadingField (part (now (a .file)) (p .a) (getD (now (a .ends)) (c .before .before .before .before .before .before .before .before .before .before .before .before .before .before .before .before .before .before .records .read .stopped) 0))) ≡ false) (code-type type (p .k) (known (c .before .before .before .before .before .before .before .before .before .before .before)) small (c .before .before .before .before .before .before .before .before .before .before .before .before .before .before .before .before .before .before .before .before .before .before .before .codes .ensures)) (c .before .read-next .ensures .misses (not-true _ (c .if3 .taken)) l)))
 
 same-length-10 : tie.Need-same-length-10 Inv-loop μ-loop Inv-records μ-records
-same-length-10 c = wide (c .before .before .before .before .before .before .before .before .before .before .before .before .before .before .before .before .before .before .before .before)
+same-length-10 c = wide (c .before .before .before .before .before .before .before .before .before .before .before .before .before .before .before .before)
 
 same-length-11 : tie.Need-same-length-11 Inv-loop μ-loop Inv-records μ-records
-same-length-11 c = c .before .before .before .before .before .before .before .before .before .before .before .before .before .before .before .before .before .before .before .before .records .inv .2 .charge .size
+same-length-11 c = c .before .before .before .before .before .before .before .before .before .before .before .before .before .before .before .before .records .inv .2 .charge .size
 
 same-length-12 : tie.Need-same-length-12 Inv-loop μ-loop Inv-records μ-records
-same-length-12 c = c .before .before .before .before .before .before .before .before .before .before .before .before .before .before .before .before .before .before .before .before .records .inv .2 .usage .size
+same-length-12 c = c .before .before .before .before .before .before .before .before .before .before .before .before .before .before .before .before .records .inv .2 .usage .size
 
 returns-4 : tie.Need-returns-4 Inv-loop μ-loop Inv-records μ-records
-returns-4 c =
-    let p = c .before .before .before .before .before .before .loop in
-    let type = c .before .before .before .before .before .before .before .before .before .before .before .before .before .before .read-head .result .record_type in
-    let a = c .before .before .before .before .before .before .before .before .before .before .before .before .before .before .before .before .before .before .before .before .before .before .before .before .before .before .before .before .before .before .before .before .before .args in
-    let small : p .k < 19 = omega (arith, few (c .before .before .before .before .before .before .before .before), c .before .before .before .before .before .loop-test .taken) in
-    fails (c .before .before .before .before .before .before .before .before .before .before .before .before .before .before .before .before .before .before)
-    (unread-field _ type (head (c .before .before .before .before .before .before .before .before .before .before .before .before .before) .type) (p .k) (field-there (p .inv .2 .read) (low (c .before .before .before .before)) (place (c .before .before .before .before .before .before .before .before .before .before .before .before .before .before .before .before .before .before) .high))
-    (ap (λ (l : List ℕ). fitsType (fieldType type (p .k)) l) (field-is (p .inv .2 .read) (low (c .before .before .before .before)) (place (c .before .before .before .before .before .before .before .before .before .before .before .before .before .before .before .before .before .before) .high))
-    ∙ subst (λ (t : FieldType). fitsType t (leadingField (part (now (a .file)) (p .a) (getD (now (a .ends)) (c .before .before .before .before .before .before .before .before .before .before .before .before .before .before .before .before .before .before .before .before .records .read .stopped) 0))) ≡ false) (code-type type (p .k) (known (c .before .before .before .before .before .before .before .before .before .before .before .before .before)) small (c .before .before .before .before .before .before .before .before .before .before .before .before .before .before .before .before .before .before .before .before .before .before .before .before .before .codes .ensures)) (c .before .read-field .ensures .1 (not-true _ (c .if4 .taken)))))
-
-same-length-13 : tie.Need-same-length-13 Inv-loop μ-loop Inv-records μ-records
-same-length-13 c = wide (c .before .before .before .before .before .before .before .before .before .before .before .before .before .before .before .before)
-
-same-length-14 : tie.Need-same-length-14 Inv-loop μ-loop Inv-records μ-records
-same-length-14 c = c .before .before .before .before .before .before .before .before .before .before .before .before .before .before .before .before .records .inv .2 .charge .size
-
-same-length-15 : tie.Need-same-length-15 Inv-loop μ-loop Inv-records μ-records
-same-length-15 c = c .before .before .before .before .before .before .before .before .before .before .before .before .before .before .before .before .records .inv .2 .usage .size
-
-returns-5 : tie.Need-returns-5 Inv-loop μ-loop Inv-records μ-records
-returns-5 c = fails (c .before .before .before .before .before .before .before .before .before .before .before .before .before .before) (unread-count _ (c .before .before .before .before .before .before .before .before .before .before .read-head .result .record_type) (head (c .before .before .before .before .before .before .before .before .before) .type) (λ z. omega (arith, z, field-there (c .before .before .loop .inv .2 .read) (omega (arith, c .if6 .taken)) (place (c .before .before .before .before .before .before .before .before .before .before .before .before .before .before) .high), c .before .loop-test .left, c .before .before .loop .inv .1, c .before .before .before .before .field-count .ensures)))
+returns-4 c = fails (c .before .before .before .before .before .before .before .before .before .before .before .before .before .before) (unread-count _ (c .before .before .before .before .before .before .before .before .before .before .read-head .result .record_type) (head (c .before .before .before .before .before .before .before .before .before) .type) (λ z. omega (arith, z, field-there (c .before .before .loop .inv .2 .read) (omega (arith, c .if5 .taken)) (place (c .before .before .before .before .before .before .before .before .before .before .before .before .before .before) .high), c .before .loop-test .left, c .before .before .loop .inv .1, c .before .before .before .before .field-count .ensures)))
 
 pub read-lines-spec : {M : Type 1} → statement M
 read-lines-spec =
@@ -351,13 +334,11 @@ read-lines-spec =
     (λ c. search needs)
     add-a
     loop-holds
-    slice-aggregate-read-field
-    add-read-field
-    mul-read-field
-    array-read-read-field
-    (λ c. search needs)
-    part-read-field-end
-    read-field-requires
+    slice-aggregate-read-next
+    add-read-next
+    mul-read-next
+    array-read-read-next
+    read-next-requires
     add-filled
     array-read-filled
     mul-record
@@ -394,8 +375,4 @@ read-lines-spec =
     same-length-10
     same-length-11
     same-length-12
-    returns-4
-    same-length-13
-    same-length-14
-    same-length-15
-    returns-5)
+    returns-4)
