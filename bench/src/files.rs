@@ -118,6 +118,11 @@ impl Files {
         self.generator.valid_of_one_site(&Request { periods, ..REQUEST }, lines)
     }
 
+    /// A file of as many charges as one site can have: FH, SH and FT leave 4,093 lines.
+    pub fn most_charges(&mut self) -> Vec<u8> {
+        self.generator.valid_of_charges(&REQUEST, MOST_LINES - 3).plain_bytes()
+    }
+
     /// So many Site IDs, all in one bucket.
     pub fn sites_of_one_bucket(&mut self, count: usize) -> Vec<u64> {
         let random = &mut self.generator.random;

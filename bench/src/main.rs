@@ -4,14 +4,19 @@
 //! `cargo run --release --offline -- ledger` times Book, Totals and Find alone. `PADDING` is how many bytes stand before the code
 //! (none where it isn't set): tools/layouts.py times it in several layouts.
 //!
+//! `cargo run --release --offline -- builds BEFORE AFTER` times Check by two builds of the library, each a shared object, beside each
+//! other on the same files: tools/builds.py makes them of static libraries, in several layouts.
+//!
 //! `cargo run --release --offline -- profile SIDE N` calls one side N times on one input and prints nothing, for a profiler. SIDE
 //! is `proved-check` or `reference-check` (a file of 4,096 lines and many sites), one of these two with `-of-one-site` at its end,
+//! the first of them with `-of-most-charges` (4,093 of one site), `-refused-by-2`, `-refused-by-3` or `-refused-by-30` (near the end),
 //! `proved-book` or `reference-book` (100 periods into 8,000 entries), `proved-totals`, `reference-totals`, `proved-find` or
 //! `reference-find` (8,000 entries), or one of the first two of these with `-of-100` at its end (100 entries). The instructions of a
 //! call are those of N = 11 without those of N = 1, divided by 10: `valgrind --tool=callgrind target/release/bench profile
 //! reference-check 11`.
 
 mod booking;
+mod builds;
 mod files;
 mod hurt;
 mod ledgers;
@@ -105,6 +110,7 @@ fn report_checks() {
     }
     let what = "one site with a thousand periods in 4096 lines";
     growths.push((what.to_owned(), report_lines(what, |lines| files.one_site(lines, lines * 1_000 / 4_096))));
+    report("check, 4096 lines, 4093 charges of one site", &check_medians(|| files.most_charges(), PASSES));
     report("check, 4096 lines, all fields as long as they may be", &check_medians(|| files.longest_fields(), PASSES));
     report("check, 4096 lines, 1048576 bytes, refused by test 3 at line 4095", &check_medians(|| files.most_bytes(), (3, 4_095)));
     for (what, [_, smaller, larger]) in growths {
@@ -182,7 +188,8 @@ fn main() {
             report_ledger();
         }
         ["ledger"] => report_ledger(),
+        ["builds", before, after] => builds::report_checks(before, after),
         ["profile", side, calls] => profile::profile(side, calls.parse().expect("N is a number")),
-        _ => panic!("usage: bench [ledger | profile SIDE N]"),
+        _ => panic!("usage: bench [ledger | builds BEFORE AFTER | profile SIDE N]"),
     }
 }

@@ -12,6 +12,8 @@ use std::hint::black_box;
 pub fn profile(side: &str, calls: usize) {
     let file = || Files::new().many_sites(4_096, Ids::Rising);
     let one_site = || Files::new().one_site(4_096, 1_000);
+    let most_charges = || Files::new().most_charges();
+    let refused_by = |test| Files::new().wrong_at_the_end(test);
     let booking = || Bookings::new().periods(100, 8_000, MOST_ENTRIES);
     let reading = |entries| Reading::new(Ledgers::new().full(entries), MOST_ENTRIES);
     match side {
@@ -19,6 +21,10 @@ pub fn profile(side: &str, calls: usize) {
         "reference-check" => repeat(calls, &file(), |file| reference_check(file)),
         "proved-check-of-one-site" => repeat(calls, &one_site(), |file| proved_check(file)),
         "reference-check-of-one-site" => repeat(calls, &one_site(), |file| reference_check(file)),
+        "proved-check-of-most-charges" => repeat(calls, &most_charges(), |file| proved_check(file)),
+        "proved-check-refused-by-2" => repeat(calls, &refused_by(2), |file| proved_check(file)),
+        "proved-check-refused-by-3" => repeat(calls, &refused_by(3), |file| proved_check(file)),
+        "proved-check-refused-by-30" => repeat(calls, &refused_by(30), |file| proved_check(file)),
         "proved-book" => repeat(calls, &booking(), restored(Booking::by_proved)),
         "reference-book" => repeat(calls, &booking(), restored(Booking::by_reference)),
         "proved-totals" => repeat(calls, &reading(8_000), Reading::totals_by_proved),

@@ -128,6 +128,12 @@ pub fn report(what: &str, medians: &Medians) {
     println!("{what}: proved {proved:.1} us, reference {reference:.1} us, ratio {:.2}", proved / reference);
 }
 
+/// The same of two builds of the proved functions, of which the one before took the place of the reference implementation.
+pub fn report_builds(what: &str, medians: &Medians) {
+    let Medians { proved: after, reference: before } = medians;
+    println!("{what}: before {before:.1} us, after {after:.1} us, ratio {:.3}", after / before);
+}
+
 /// A line with the growth of both sides from a smaller case to a larger one.
 pub fn report_growth(what: &str, smaller: &Medians, larger: &Medians) {
     println!("{what}: proved grows {:.2}-fold, reference {:.2}-fold", larger.proved / smaller.proved, larger.reference / smaller.reference);

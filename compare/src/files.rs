@@ -1,8 +1,9 @@
-//! Files: valid ones, ones damaged so that a given test is the first to fail, edited ones, noise, files at both limits, and files with an
-//! amount or a conditional field left out.
+//! Files: valid ones, ones damaged so that a given test is the first to fail, edited ones, noise, files at both limits, files with an
+//! amount or a conditional field left out, and files whose sums are as large as they may be.
 
 use crate::conditional;
 use crate::digest::Digest;
+use crate::sums;
 use crate::tally::Tally;
 use compare::proved;
 use reference::check::check;
@@ -163,6 +164,7 @@ pub fn compare(seed: u64) -> u64 {
     hold_generated(&mut comparison, seed + 1, Style::Varied);
     hold_amount_fields(&mut comparison, seed + 2);
     conditional::hold(&mut comparison, seed + 3);
+    sums::hold(&mut comparison, seed + 4);
     comparison.hold(RETAILER, b"0040", b"");
     for test in CHECK_TESTS {
         let met = comparison.answers.get(&test).copied().unwrap_or(0);

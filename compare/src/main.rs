@@ -11,6 +11,7 @@ mod histories;
 mod inputs;
 mod ledgers;
 mod recording;
+mod sums;
 mod tally;
 
 use compare::proved;

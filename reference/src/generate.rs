@@ -259,6 +259,18 @@ impl Generator {
         self.draft(request, &plans)
     }
 
+    /// A valid file of one site and so many original one-time charges.
+    pub fn valid_of_charges(&mut self, request: &Request, charges: usize) -> Draft {
+        let course = self.new_site(request);
+        let SiteCourse { site, next_day, .. } = self.courses[course];
+        let mut plan = SitePlan::new(site);
+        for _ in 0..charges {
+            let body = OneTimeCharge::any(&mut self.random, site, next_day);
+            plan.one_time_charges.push(Item { body, cancels: None });
+        }
+        self.draft(request, &[plan])
+    }
+
     /// A valid file that cancels all originals of the sender and commodity
     /// that were accepted, without rebills.
     pub fn valid_of_cancels(&mut self, request: &Request) -> Draft {

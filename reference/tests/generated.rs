@@ -229,6 +229,16 @@ fn limits() {
 }
 
 #[test]
+fn most_charges_of_one_site() {
+    let mut generator = Generator::new(9, Style::Varied);
+    let request = generator.request();
+    let draft = generator.valid_of_charges(&request, 4_093);
+    assert_eq!(draft.records.len(), 4_096);
+    let file = generator.write(&draft);
+    assert_eq!(both_checks(b"0040", &file), (0, 0));
+}
+
+#[test]
 fn many_periods_of_one_site() {
     let mut generator = Generator::new(9, Style::Varied);
     let request = Request { sites: 1, periods: 300, one_time_sites: 0, ..generator.request() };

@@ -138,7 +138,7 @@ pub fn record_at(file: &[u8], start: usize, end: usize) -> Record
 pub struct Place(pub usize, pub usize);
 
 // The place of field k, counted from 1, of a record whose fields stand at the first count of starts and ends; 0 to 0 where there is none.
-fn place_among(starts: &[usize; 24], ends: &[usize; 24], count: usize, k: usize) -> Place
+fn place_among<'a>(starts: &'a [usize; 24], ends: &'a [usize; 24], count: usize, k: usize) -> Place
     requires { ⌜ count ≤ 24 ⌝ }
     ensures { λ r. ⌜ (r .0 ≡ numberAmong (take count (now (starts .entry))) k) × (r .1 ≡ numberAmong (take count (now (ends .entry))) k) ⌝ }
 {
@@ -175,7 +175,5 @@ pub fn field_at(file: &[u8], a: usize, e: usize, k: usize) -> Place
 {
     let r = record_at(file, a, e);
     let count = r.count;
-    let starts = r.starts;
-    let ends = r.ends;
-    place_among(&starts, &ends, count, k)
+    place_among(&r.starts, &r.ends, count, k)
 }
