@@ -1,14 +1,14 @@
 //! The bookings that Book is timed on: a ledger, mostly with room for as many entries as it may have, and a file to book into it.
 
 use crate::files::{Files, Ids};
-use crate::ledgers::{Ledgers, REQUEST, SENDERS};
+use crate::ledgers::{Ledgers, SENDERS};
 use compare::proved;
 use reference::booking::{book, Answer};
 use reference::check::Settings;
 use reference::file::{RecordType, MOST_LINES};
 use reference::generate::content::date;
 use reference::generate::draft::{Draft, DraftRecord};
-use reference::generate::RETAILER;
+use reference::generate::{Request, RETAILER};
 use reference::ledger::{Entry, MOST_ENTRIES};
 use std::cell::RefCell;
 
@@ -80,7 +80,7 @@ impl Bookings {
     /// A file of so many periods into a ledger of so many entries in a run of so many places. It bills some of the ledger's sites again.
     pub fn periods(&mut self, periods: usize, entries: usize, places: usize) -> Booking {
         let stored = self.ledgers.full(entries);
-        let draft = self.ledgers.generator.valid_of_periods(&REQUEST, periods);
+        let draft = self.ledgers.generator.valid_of_periods(&Request::ONE_PERIOD, periods);
         Booking::new(&stored, places, &draft)
     }
 
@@ -109,9 +109,9 @@ impl Bookings {
         run.resize(others + 1 + cancels, Entry::default());
         let generator = &mut self.ledgers.generator;
         generator.begin_ledger();
-        let originals = generator.valid_of_periods(&REQUEST, cancels);
+        let originals = generator.valid_of_periods(&Request::ONE_PERIOD, cancels);
         assert_eq!(generator.book_draft(&originals, &mut run, others), 1 + cancels);
-        (run, generator.valid_of_cancels(&REQUEST))
+        (run, generator.valid_of_cancels(&Request::ONE_PERIOD))
     }
 
     /// As many periods as a file can have, of one day each and all of the one site of a ledger that has as many, and all live.

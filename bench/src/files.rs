@@ -1,6 +1,5 @@
 //! The files that Check is timed on. All but one pass every test.
 
-use crate::ledgers::REQUEST;
 use crate::longest::lengthen;
 use reference::fields::FieldType;
 use reference::file::{MOST_BYTES, MOST_LINES};
@@ -96,7 +95,7 @@ impl Files {
     }
 
     pub fn many_sites_draft(&mut self, lines: usize, ids: Ids) -> Draft {
-        let mut draft = self.generator.valid_of_lines(&REQUEST, lines);
+        let mut draft = self.generator.valid_of_lines(&Request::ONE_PERIOD, lines);
         let random = &mut self.generator.random;
         match ids {
             Ids::Rising => {}
@@ -115,12 +114,12 @@ impl Files {
     }
 
     pub fn one_site_draft(&mut self, lines: usize, periods: usize) -> Draft {
-        self.generator.valid_of_one_site(&Request { periods, ..REQUEST }, lines)
+        self.generator.valid_of_one_site(&Request { periods, ..Request::ONE_PERIOD }, lines)
     }
 
     /// A file of as many charges as one site can have: FH, SH and FT leave 4,093 lines.
     pub fn most_charges(&mut self) -> Vec<u8> {
-        self.generator.valid_of_charges(&REQUEST, MOST_LINES - 3).plain_bytes()
+        self.generator.valid_of_charges(&Request::ONE_PERIOD, MOST_LINES - 3).plain_bytes()
     }
 
     /// So many Site IDs, all in one bucket.
@@ -149,7 +148,7 @@ impl Files {
     }
 
     fn longest_draft(&mut self) -> Draft {
-        let mut draft = self.generator.valid_of_lines(&REQUEST, MOST_LINES);
+        let mut draft = self.generator.valid_of_lines(&Request::ONE_PERIOD, MOST_LINES);
         draft.records.iter_mut().for_each(lengthen);
         draft
     }

@@ -10,9 +10,6 @@ use std::collections::HashMap;
 /// The senders of the files, who use the same Record IDs.
 pub const SENDERS: [u64; 3] = [40, 41, 7_000];
 
-/// A file of the first sender.
-pub const REQUEST: Request = Request { sender: 0, commodity: Commodity::Electricity, sites: 1, periods: 1, one_time_sites: 0, cancels: 0 };
-
 /// How many buckets the proved code's hash table has for the keys of more than 1,024 entries.
 const BUCKETS: u64 = 16_384;
 

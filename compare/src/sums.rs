@@ -2,7 +2,6 @@
 //! back. Each total that is a unit off, and each usage total in place of a charge total, is found.
 
 use crate::files::Comparison;
-use reference::bill::Commodity;
 use reference::fields::FieldType;
 use reference::file::{RecordType, MOST_LINES};
 use reference::generate::content::date;
@@ -11,14 +10,6 @@ use reference::generate::{Generator, Request, Style, RETAILER};
 
 use RecordType::{FileTrailer, OneTimeCharge, PeriodHeader, SiteHeader, TariffCharge, UsageDeterminant};
 
-const REQUEST: Request = Request { sender: 0, commodity: Commodity::Electricity, sites: 1, periods: 1, one_time_sites: 0, cancels: 0 };
-
-const USAGE_TOTAL: usize = 12;
-
-const CHARGE_TOTAL: usize = 14;
-
-const TRAILER_TOTAL: usize = 5;
-
 /// A Record ID above those of the headers.
 const FIRST_ID: usize = 1_000_000_000;
 
@@ -26,15 +17,15 @@ const FIRST_ID: usize = 1_000_000_000;
 /// charges stands one usage of 0 over the whole period.
 fn draft_of(generator: &mut Generator, summed: RecordType) -> Draft {
     if summed == OneTimeCharge {
-        return generator.valid_of_charges(&REQUEST, MOST_LINES - 3);
+        return generator.valid_of_charges(&Request::ONE_PERIOD, MOST_LINES - 3);
     }
-    let mut draft = generator.valid_of_one_site(&REQUEST, 6);
+    let mut draft = generator.valid_of_one_site(&Request::ONE_PERIOD, 6);
     let template = |record_type| draft.records[draft.places(|record| record.record_type == record_type)[0]].clone();
     let (mut usage, template) = (template(UsageDeterminant), template(summed));
     let mut trailer = draft.records.pop().expect("a file has a trailer");
     draft.records.retain(|record| !record.is_period_child());
     if summed == TariffCharge {
-        usage.set(summed_field(UsageDeterminant), "0");
+        usage.set(amount_field(UsageDeterminant, UsageDeterminant), "0");
         draft.records.push(usage);
     }
     let days = MOST_LINES - draft.records.len() - 1;
@@ -56,16 +47,16 @@ fn set_days(record: &mut DraftRecord, start: usize, end: usize) {
     record.set(6, date(end as u32));
 }
 
-/// The field of a record that is summed.
-fn summed_field(summed: RecordType) -> usize {
-    let field = if summed == UsageDeterminant { summed.usage_field() } else { summed.charge_field() };
-    field.expect("the records of the type are summed")
+/// The field of a type that has an amount or a total in the unit of the records that are summed.
+fn amount_field(record_type: RecordType, summed: RecordType) -> usize {
+    let field = if summed == UsageDeterminant { record_type.usage_field() } else { record_type.charge_field() };
+    field.expect("the type has an amount in this unit")
 }
 
 /// Gives the first half of the records of a type one sign and the others the other, all amounts as large as they may be but the last, which
 /// is one whole unit nearer to 0, and sets all totals.
 fn set_amounts(draft: &mut Draft, summed: RecordType, sign: i64) {
-    let number = summed_field(summed);
+    let number = amount_field(summed, summed);
     let FieldType::Number(precision, places) = summed.fields()[number - 1].field_type else { panic!("what is summed is an amount") };
     let (largest, whole) = (10_i64.pow(precision) - 1, 10_i64.pow(places));
     let records = draft.places(|record| record.record_type == summed);
@@ -77,24 +68,20 @@ fn set_amounts(draft: &mut Draft, summed: RecordType, sign: i64) {
         total += amount;
     }
     let (usage, charge) = if summed == UsageDeterminant { (total, 0) } else { (0, total) };
-    for record in &mut draft.records {
-        match record.record_type {
-            PeriodHeader | SiteHeader => {
-                record.set(USAGE_TOTAL, amount_text(usage, 4));
-                record.set(CHARGE_TOTAL, amount_text(charge, 2));
-            }
-            FileTrailer => record.set(TRAILER_TOTAL, amount_text(charge, 2)),
-            _ => {}
+    for record in draft.records.iter_mut().filter(|record| matches!(record.record_type, SiteHeader | PeriodHeader | FileTrailer)) {
+        let record_type = record.record_type;
+        for (number, text) in [(record_type.usage_field(), amount_text(usage, 4)), (record_type.charge_field(), amount_text(charge, 2))] {
+            number.into_iter().for_each(|number| record.set(number, text.as_str()));
         }
     }
 }
 
-/// The totals over a type: the record that has each, its field, the test that finds it wrong, and its line.
-fn totals_over(summed: RecordType) -> &'static [(RecordType, usize, u32, usize)] {
+/// The totals over a type: the record that has each, the test that finds it wrong, and its line.
+fn totals_over(summed: RecordType) -> &'static [(RecordType, u32, usize)] {
     match summed {
-        UsageDeterminant => &[(SiteHeader, USAGE_TOTAL, 29, 2), (PeriodHeader, USAGE_TOTAL, 31, 3)],
-        TariffCharge => &[(SiteHeader, CHARGE_TOTAL, 30, 2), (PeriodHeader, CHARGE_TOTAL, 32, 3), (FileTrailer, TRAILER_TOTAL, 34, MOST_LINES)],
-        _ => &[(SiteHeader, CHARGE_TOTAL, 30, 2), (FileTrailer, TRAILER_TOTAL, 34, MOST_LINES)],
+        UsageDeterminant => &[(SiteHeader, 29, 2), (PeriodHeader, 31, 3)],
+        TariffCharge => &[(SiteHeader, 30, 2), (PeriodHeader, 32, 3), (FileTrailer, 34, MOST_LINES)],
+        _ => &[(SiteHeader, 30, 2), (FileTrailer, 34, MOST_LINES)],
     }
 }
 
@@ -105,15 +92,15 @@ fn hold_totals(comparison: &mut Comparison, draft: &Draft, summed: RecordType) {
         assert_eq!(answer, (expected.0, expected.1 as u32), "{summed:?}: {what}");
     };
     expect(draft, (0, 0), "all totals are right");
-    for &(owner, number, test, line) in totals_over(summed) {
+    for &(owner, test, line) in totals_over(summed) {
         for units in [-1, 1] {
             let mut wrong = draft.clone();
-            wrong.records[line - 1].shift(number, units);
+            wrong.records[line - 1].shift(amount_field(owner, summed), units);
             expect(&wrong, (test, line), "a total is a unit off");
         }
-        if owner != FileTrailer {
+        if let (Some(usage), Some(charge)) = (owner.usage_field(), owner.charge_field()) {
             let mut exchanged = draft.clone();
-            exchanged.records[line - 1].fields.swap(USAGE_TOTAL - 1, CHARGE_TOTAL - 1);
+            exchanged.records[line - 1].fields.swap(usage - 1, charge - 1);
             let test = if owner == SiteHeader { 29 } else { 31 };
             expect(&exchanged, (test, line), "the totals of a header are exchanged");
         }

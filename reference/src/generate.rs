@@ -55,6 +55,18 @@ pub struct Request {
     pub cancels: usize,
 }
 
+impl Request {
+    /// One site with one original period, of electricity, from the first sender.
+    pub const ONE_PERIOD: Request = Request {
+        sender: 0,
+        commodity: Commodity::Electricity,
+        sites: 1,
+        periods: 1,
+        one_time_sites: 0,
+        cancels: 0,
+    };
+}
+
 /// A site and the first day that no file has billed yet.
 #[derive(Clone, Debug)]
 struct SiteCourse {
