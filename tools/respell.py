@@ -12,7 +12,7 @@ import os
 import re
 import sys
 
-DECLARED = re.compile(r"^\s*(?:(?:abbrev|unfoldable|pub) )*([^\s:(){},;.]+) :", re.M)
+DECLARED = re.compile(r"^\s*(?:(?:abbrev|unfoldable|pub) )*([^\s:(){},;.]+)(?: \{[^}]*\})? :", re.M)
 # A name of antt: letters, digits, and what may stand between them.
 NAME = re.compile(r"(?<![\w'₀-₉ₐ-ₜ◌≡-])[A-Za-z][\w'₀-₉ₐ-ₜ]*(?:-[\w'₀-₉ₐ-ₜ*+≢≤<]+)*")
 CAMEL = re.compile(r"[a-z][a-z0-9_]*[A-Z]")

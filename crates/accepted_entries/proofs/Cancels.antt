@@ -12,7 +12,7 @@ use native.Mathlib.Nat.{le_refl}
 use native.Mathlib.Omega.{arith}
 use lib.ListN.{length, get_or, set, take, drop, length-set, take-append-drop, drop_of_length-le}
 use lib.Seq.{length-take-le, take-take, take-set-le, take-set-lt, drop-set-lt, get_or-take}
-use Rattle.lists.specs.First.{firstWhere}
+use Rattle.lists.specs.First.{first_where}
 use Rattle.lists.specs.Selections.{filter}
 use Rattle.lists.proofs.Selections.{length_split}
 use Rattle.bill_files.specs.Accepted.{Bill}
@@ -71,12 +71,12 @@ module _ (bills : List Bill) (u : ℕ) (first : List Entry) where
         front : take m run ≡ take u run ++ drop u (take m run)
         front = sym (take-append-drop u (take m run)) ∙ ap (λ (x : List Entry). x ++ drop u (take m run)) (take-take u m run low)
 
-        there : firstWhere (names_entry c) (take u run) ≡ p
-        there = ap (firstWhere (names_entry c)) C.before ∙ sym named
+        there : first_where (names_entry c) (take u run) ≡ p
+        there = ap (first_where (names_entry c)) C.before ∙ sym named
 
-        found : firstWhere (names_entry c) (take m run) ≡ p
+        found : first_where (names_entry c) (take m run) ≡ p
         found =
-            ap (firstWhere (names_entry c)) front
+            ap (first_where (names_entry c)) front
             ∙ first_ahead (names_entry c) (take u run) (drop u (take m run)) (omega (arith, there, length-take-le u run (omega arith)))
             ∙ there
 

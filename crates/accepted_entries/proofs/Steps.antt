@@ -12,7 +12,7 @@ use native.Mathlib.Numerals.{add-one}
 use native.Mathlib.Omega.{arith}
 use lib.ListN.{length, set, take, drop}
 use lib.Seq.{drop-cons, drop-drop, take-suc-set}
-use Rattle.lists.specs.First.{firstWhere}
+use Rattle.lists.specs.First.{first_where}
 use Rattle.lists.specs.Selections.{filter}
 use Rattle.bill_files.specs.Accepted.{Bill}
 use Rattle.booking.specs.Acceptable.{no_bill, bill_at}
@@ -35,11 +35,11 @@ drop_later m n xs ys h e =
 pub snoc_set : {A : Type 0} (l : List A) (i : ℕ) (a : A) → i < length l → take (i + 1) (set l i a) ≡ take i l ++ (a ∷ [])
 snoc_set l i a h = ap (λ (m : ℕ). take m (set l i a)) (add-one i) ∙ take-suc-set l i a h
 
-pub first_ahead : {A : Type 0} (f : A → Bool) (xs ys : List A) → firstWhere f xs < length xs → firstWhere f (xs ++ ys) ≡ firstWhere f xs
-unfolding firstWhere
+pub first_ahead : {A : Type 0} (f : A → Bool) (xs ys : List A) → first_where f xs < length xs → first_where f (xs ++ ys) ≡ first_where f xs
+unfolding first_where
 first_ahead f [] ys h = absurd (omega arith)
 first_ahead f (x ∷ xs) ys h = go (λ h. first_ahead f xs ys h) (f x) h
   where
-    go : (firstWhere f xs < length xs → firstWhere f (xs ++ ys) ≡ firstWhere f xs) → (t : Bool) → cond t 0 (suc (firstWhere f xs)) < suc (length xs) → cond t 0 (suc (firstWhere f (xs ++ ys))) ≡ cond t 0 (suc (firstWhere f xs))
+    go : (first_where f xs < length xs → first_where f (xs ++ ys) ≡ first_where f xs) → (t : Bool) → cond t 0 (suc (first_where f xs)) < suc (length xs) → cond t 0 (suc (first_where f (xs ++ ys))) ≡ cond t 0 (suc (first_where f xs))
     go more true h = refl
     go more false h = ap suc (more (omega arith))

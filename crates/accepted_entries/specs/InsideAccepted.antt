@@ -1,7 +1,7 @@
 -- What the functions that write an accepted file's entries leave.
 -- Assumes nothing.
 use Rattle.std.specs.Prelude.{◌≡◌, ◌&&◌, cond, List, ℕ, ltb, length, set, take, drop}
-use Rattle.lists.specs.First.{firstWhere}
+use Rattle.lists.specs.First.{first_where}
 use Rattle.entries.specs.declared.Entry.{Entry}
 use Rattle.entries.specs.Entries.{entry_of, is_period, in_state}
 use Rattle.used_entries.specs.InsideSited.{overlaps_entry}
@@ -19,7 +19,7 @@ with_cancel run used place e = set (set run place (in_state (entry_of run place)
 
 -- an original's state after the entries l
 unfoldable pub state_after : List Entry → Entry → ℕ
-state_after l e = cond (is_period e && ltb (firstWhere (overlaps_entry e) l) (length l)) 2 1
+state_after l e = cond (is_period e && ltb (first_where (overlaps_entry e) l) (length l)) 2 1
 
 abbrev pub original_after : List Entry → Entry → Entry
 original_after l e = in_state e (state_after l e)

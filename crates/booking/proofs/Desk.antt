@@ -8,7 +8,7 @@ use Prim.Native.Nat.{ℕ, ◌+◌}
 use native.Mathlib.Omega.{arith}
 use lib.ListN.{length}
 use lib.IntN.{ℤ, pos, negsuc}
-use Rattle.lists.specs.First.{firstWhere}
+use Rattle.lists.specs.First.{first_where}
 use Rattle.lists.specs.Selections.{filter, sum}
 use Rattle.calendar.specs.Periods.{shares_day}
 use Rattle.refusals.specs.declared.Outcome.{Outcome}
@@ -126,7 +126,7 @@ record Answers : Type 0 where
   two_left : tested (length after_c + 2) after_c file_charge ≡ passed
 
 answers : Answers
-unfolding first_refusal ledger_refusals has_file first_unnamed first_unopposed is_stored has_stored names_entry opposite overlaps first_overlap firstWhere state_of shares_day
+unfolding first_refusal ledger_refusals has_file first_unnamed first_unopposed is_stored has_stored names_entry opposite overlaps first_overlap first_where state_of shares_day
 answers = record { cancel_and_rebill = refl; other_amount = refl; cancel_again = refl; shared_day = refl; one_left = refl; two_left = refl }
 
 -- ---- what is live and what is held
@@ -143,13 +143,13 @@ record Leaves : Type 0 where
   held_charge : sum (λ b. b.charge) (held_of (archive [] accepted)) ≡ pos 5000
 
 leaves : Leaves
-unfolding names_entry overlaps first_overlap firstWhere state_of fits is_held_at_turn shares_site_day shares_day
+unfolding names_entry overlaps first_overlap first_where state_of fits is_held_at_turn shares_site_day shares_day
 leaves = record { live_after_B = refl; states_after_C = refl; statuses = refl; total = refl; live_charge = refl; held_charge = refl }
 
 -- ---- the guarantee speaks of them
 
 all_pass : Accepted 10 [] accepted after_c
-unfolding entry_fits digits_fit ranges_fit days_fit lacks_fit is_stored names_entry opposite overlaps first_overlap firstWhere state_of shares_day
+unfolding entry_fits digits_fit ranges_fit days_fit lacks_fit is_stored names_entry opposite overlaps first_overlap first_where state_of shares_day
 all_pass = (
   record { file_fits = refl; bills_fit = tt; keys_once = tt; total = refl; named = tt; unstored = tt; room = omega arith },
   (

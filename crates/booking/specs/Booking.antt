@@ -2,7 +2,7 @@
 -- Assumes nothing.
 use Rattle.std.specs.Prelude.{ℕ, suc, ◌+◌, ◌≡◌, Bool, true, false, not, ◌&&◌, ◌||◌, cond, List, [], ◌∷◌, ◌++◌, eqb, ltb, pos, length, get_or, take, drop}
 use Rattle.std.proofs.Math.Option.{Option, none, some}
-use Rattle.lists.specs.First.{firstWhere}
+use Rattle.lists.specs.First.{first_where}
 use Rattle.lists.specs.Selections.{filter, any, count}
 use Rattle.calendar.specs.Periods.{shares_day}
 use Rattle.records.specs.Text.{lines_of}
@@ -96,7 +96,7 @@ overlaps b e = is_live_period e && eqb e.site b.site && shares_day (period e) (p
 
 -- the place of the first such entry, or the number of entries
 unfoldable pub first_overlap : List Entry → Bill → ℕ
-first_overlap l b = firstWhere (overlaps b) l
+first_overlap l b = first_where (overlaps b) l
 
 -- "An original period is held if it shares a day with a live period of its site at that moment, whoever sent either; otherwise live. Original one-time
 -- charges are live."

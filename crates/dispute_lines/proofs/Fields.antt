@@ -15,7 +15,7 @@ use lib.Dec.{eqb, leb}
 use lib.IntN.{pos}
 use lib.ListN.{length, get_or, take}
 use lib.Seq.{take-length}
-use Rattle.lists.specs.First.{firstWhere}
+use Rattle.lists.specs.First.{first_where}
 use Rattle.lists.proofs.Reflected.{empty_is}
 use Rattle.digits.specs.Digits.{is_digit, all_digits, number_of, digits_of, fixed_digits_of}
 use Rattle.digits.specs.declared.Number.TheVariants.{Value}
@@ -61,7 +61,7 @@ shown_fits false n h = empty_fits RecordId
 
 -- ---- a code: digits without a point or a minus
 digits_point : (s : List ℕ) → all_digits s ≡ true → point_of s ≡ length s
-unfolding firstWhere all_digits
+unfolding first_where all_digits
 digits_point [] d = refl
 digits_point (b ∷ s) d =
     let e = both_true (is_digit b) (all_digits s) d in

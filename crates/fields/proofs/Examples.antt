@@ -6,7 +6,7 @@ use mathlib.Core.Path.{◌≡◌, refl}
 use mathlib.Core.List.{List, [], ◌∷◌, map}
 use mathlib.Core.Bool.{Bool, true, false}
 use lib.IntN.{pos}
-use Rattle.lists.specs.First.{firstWhere}
+use Rattle.lists.specs.First.{first_where}
 use Rattle.lists.specs.Written.{written}
 use Rattle.digits.specs.Digits.{all_digits, followed_by, digits_of}
 use Rattle.calendar.specs.declared.Day.{Day}
@@ -60,5 +60,5 @@ examples =
     ∷ []
 
 pub examples_hold : map (λ (e : Question × Reading). answer e.0) examples ≡ map (λ (e : Question × Reading). e.1) examples
-unfolding firstWhere all_digits followed_by digits_of month_days first_day is_date day_at day_of shares_day is_unsigned is_number units_of amount_of
+unfolding first_where all_digits followed_by digits_of month_days first_day is_date day_at day_of shares_day is_unsigned is_number units_of amount_of
 examples_hold = refl

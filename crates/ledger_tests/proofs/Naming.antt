@@ -16,7 +16,7 @@ use lib.Dec.{eqb, ltb}
 use lib.IntN.{ℤ}
 use lib.ListN.{length, get_or, set, take}
 use lib.Seq.{get_or-set_same, get_or-set_other}
-use Rattle.lists.specs.First.{firstWhere}
+use Rattle.lists.specs.First.{first_where}
 use Rattle.lists.specs.Below.{first_below}
 use Rattle.lists.proofs.Below.{first_at_most, first_holds, first_least}
 use Rattle.lists.proofs.Column.{stored}
@@ -63,8 +63,8 @@ unfolding names_as names_entry
 names_same b e = ap (λ (r : Option ℕ). is_live_or_held e && refers_to r e.id && same_subject (entry b 4) e) (reference_back b.reference)
 
 -- the first place by a test of places, and the first element by a test that agrees with it
-first_where : {A : Type 0} (f : A → Bool) (l : List A) (d : A) (test : ℕ → Bool) (n : ℕ) → length l ≡ n → ((p : ℕ) → p < n → f (get_or l p d) ≡ test p) → first_below test n ≡ firstWhere f l
-first_where f l d test n long same = sym (go (dec_lt (first_below test n) n))
+first_where_lem : {A : Type 0} (f : A → Bool) (l : List A) (d : A) (test : ℕ → Bool) (n : ℕ) → length l ≡ n → ((p : ℕ) → p < n → f (get_or l p d) ≡ test p) → first_below test n ≡ first_where f l
+first_where_lem f l d test n long same = sym (go (dec_lt (first_below test n) n))
   where
     passed : Passed f l (first_below test n)
     passed =
@@ -72,7 +72,7 @@ first_where f l d test n long same = sym (go (dec_lt (first_below test n) n))
         (passed_over f l d 0 (first_below test n) (omega (arith, first_at_most test n, long)) (passed_none f l)
         (λ k h. ap (λ (j : ℕ). f (get_or l j d)) (zero-add k) ∙ same k (omega (arith, first_at_most test n)) ∙ first_least test n k h))
 
-    go : Dec (first_below test n < n) → firstWhere f l ≡ first_below test n
+    go : Dec (first_below test n < n) → first_where f l ≡ first_below test n
     go (yes h) = passed_here f l d (first_below test n) (omega (arith, long)) passed (same (first_below test n) h ∙ first_holds test n h)
     go (no h) = passed_end f l (first_below test n) (omega (arith, h, long)) passed
 
@@ -92,12 +92,12 @@ module _ (words : List ℕ) (amounts : List ℤ) (n : ℕ) (now : List Entry) (m
       go true = ap (names_entry b) (entry_of_lem words amounts n p h)
       go false = cancelled_unnamed b (entry_of l p)
 
-  named_is : named_first words amounts n marks (reference_in_column b.reference) (entry b 4) ≡ firstWhere (names_entry b) now
+  named_is : named_first words amounts n marks (reference_in_column b.reference) (entry b 4) ≡ first_where (names_entry b) now
   unfolding named_first
-  named_is = first_where (names_entry b) now blank _ n long at
+  named_is = first_where_lem (names_entry b) now blank _ n long at
 
   -- one more is marked
-  marked_more : (p : ℕ) → p ≡ firstWhere (names_entry b) now → p < n → p < length marks → Marked l (cancel_named b now) (set marks p 1)
+  marked_more : (p : ℕ) → p ≡ first_where (names_entry b) now → p < n → p < length marks → Marked l (cancel_named b now) (set marks p 1)
   marked_more p first h room = record {
     long = length_cancelled b now ∙ M.long;
     each = λ q k. ap (λ (x : List Entry). entry_of x q) (cancel_first b now p (sym first) (omega (arith, long))) ∙ go q k (ℕ_discrete q p);
@@ -150,7 +150,7 @@ module _ (words : List ℕ) (amounts : List ℤ) (n : ℕ) (bills : List Bill) (
   flag : is_cancel e ≡ b.cancel
   flag = source_cancel b e same
 
-  first : b.cancel ≡ true → place ≡ firstWhere (names_entry b) before
+  first : b.cancel ≡ true → place ≡ first_where (names_entry b) before
   first q = (λ t. named_first words amounts n marks (refers t) (source_as b e true same q t)) ∙ named_is words amounts n before marks G.marked b
 
   long_before : length before ≡ n

@@ -40,7 +40,7 @@ use Rattle.booking.proofs.Steps.{refused_leaves, used_accepted, run_accepted, us
 use Rattle.runs.specs.InsideCopies.{placed}
 use Rattle.book.proofs.Rooms.{used_room}
 use Rattle.runs.proofs.Laws.{read_le, read_cap, read_below}
-use Rattle.runs.proofs.Sound.{loaded-cases}
+use Rattle.runs.proofs.Sound.{loaded_cases}
 use Rattle.lent_ledger.specs.declared.BookReply.{BookReply}
 use Rattle.lent_ledger.specs.InsideTold.{Told}
 use Rattle.lent_ledger.specs.BookReplies.{book_reply, answer_of, HostBooked}
@@ -52,16 +52,16 @@ module _ (i : Input) where
   taken = accepted_result (length (added_by i)) (count is_held (added_by i))
 
   -- an acceptance; or a refusal, which has a number
-  result-cases {ξ} : {X : Type ξ} → (is_booked i ≡ true → book_result i ≡ taken → X)
+  result_cases {ξ} : {X : Type ξ} → (is_booked i ≡ true → book_result i ≡ taken → X)
       → (is_booked i ≡ false → (number line : ℕ) → eqb number 0 ≡ false → book_result i ≡ refused_result number line → X) → X
   unfolding book_result
-  result-cases accepted refused =
+  result_cases accepted refused =
       let result : Bool → Result = λ b. cond b taken (refused_result (book_refusal i).number (book_refusal i).line) in
       cases (is_booked i) (λ e. accepted e (ap result e)) (λ e. refused e (book_refusal i).number (book_refusal i).line e (ap result e))
 
   pub reads_back : result_of (answer_of (book_reply (book_result i))) ≡ book_result i
   reads_back =
-      result-cases (λ _ is. subst (λ (r : Result). result_of (answer_of (book_reply r)) ≡ r) (sym is) refl)
+      result_cases (λ _ is. subst (λ (r : Result). result_of (answer_of (book_reply r)) ≡ r) (sym is) refl)
       (λ _ number line some is. subst (λ (r : Result). result_of (answer_of (book_reply r)) ≡ r) (sym is) (rw some refl))
 
 -- ---- what Book leaves of the entries that it was lent
@@ -70,9 +70,9 @@ abbrev later : List Entry → BillFile → List Bill → List Entry
 later l file cs = original_entries (cancel_all l cs ++ file_entry file ∷ cancel_entries cs) (originals file)
 
 -- the entries stand as they were, or the second entry added is a cancel
-second-added {ξ} : {X : Type ξ} (l : List Entry) (file : BillFile) → (take (length l) (booked l file) ≡ l → X)
+second_added {ξ} : {X : Type ξ} (l : List Entry) (file : BillFile) → (take (length l) (booked l file) ≡ l → X)
     → (length l + 1 < length (booked l file) → (get_or (booked l file) (length l + 1) blank).state ≡ 4 → X) → X
-second-added {X} l file kept cancelled = go (cancels file) (booked_parts l file)
+second_added {X} l file kept cancelled = go (cancels file) (booked_parts l file)
   where
     go : (cs : List Bill) → booked l file ≡ cancel_all l cs ++ ((file_entry file ∷ cancel_entries cs) ++ later l file cs) → X
     go [] e = kept (ap (take (length l)) e ∙ take-append_seam l ((file_entry file ∷ []) ++ later l file []))
@@ -128,7 +128,7 @@ module _ (ys : List Entry) (used : ℕ) (room : used ≤ length ys) (file : Bill
 
   kept : is_cancelled ≡ false → take used after ≡ l
   kept e =
-      second-added l file (λ same. ap (λ (n : ℕ). take n after) (sym long) ∙ same)
+      second_added l file (λ same. ap (λ (n : ℕ). take n after) (sym long) ∙ same)
       (λ h s. absurd (true≢false
       (sym (λ t. ltb_is (subst (λ (n : ℕ). n + 1 < length after) long h) t && state_is (ap (λ (n : ℕ). (get_or after (n + 1) blank).state) (sym long) ∙ s) t) ∙ e)))
     where
@@ -206,11 +206,11 @@ module _ (retailer : ℕ) (distributors file : List ℕ) (ys : List Entry) (used
     roomy : (p ≡ length ys) ⊎ (used + 1 + length (lines_of file) ≤ p)
 
   -- or neither ledger is sound
-  told-cases {ξ} : {X : Type ξ} → (Alike → X) → (is_sound es used ≡ false → is_sound ys used ≡ false → X) → X
-  told-cases {X} alike unsound = elim told [ inl e ↦ all e | inr h ↦ some h ]
+  told_cases {ξ} : {X : Type ξ} → (Alike → X) → (is_sound es used ≡ false → is_sound ys used ≡ false → X) → X
+  told_cases {X} alike unsound = elim told [ inl e ↦ all e | inr h ↦ some h ]
     where
       all : p ≡ length ys → X
-      all e = loaded-cases ns zs ys used loaded
+      all e = loaded_cases ns zs ys used loaded
           (λ small room same. alike (record {
             small = small;
             within = omega (arith, e, room);
@@ -233,7 +233,7 @@ module _ (retailer : ℕ) (distributors file : List ℕ) (ys : List Entry) (used
           })
 
   same_answer : book_result j ≡ book_result i
-  same_answer = told-cases
+  same_answer = told_cases
       (λ a. elim a.roomy [
         | inl e ↦ same_result i.settings file used es ys a.same (length_entries ns zs p ∙ e)
         | inr h ↦ roomy_result i.settings file used es ys a.same (omega (arith, length_entries ns zs p, a.below, a.small)) a.small (omega (arith, length_entries ns zs p, h)) (omega (arith, h, a.below))
@@ -247,7 +247,7 @@ module _ (retailer : ℕ) (distributors file : List ℕ) (ys : List Entry) (used
     fits_in : length (ledger_after i) ≤ p
 
   accepted : is_booked i ≡ true → Taken
-  accepted aye = told-cases
+  accepted aye = told_cases
       (λ a.
       let long : length (ledger_of i) ≡ used = length-take-le used ys (omega (arith, a.within, a.below)) in
       record {
@@ -269,7 +269,7 @@ module _ (retailer : ℕ) (distributors file : List ℕ) (ys : List Entry) (used
   to_read : to ≤ read_count p p
   to_read =
       subst (λ (r : Result). written_to (book_reply r) used ≤ read_count p p) (sym same_answer)
-      (result-cases i
+      (result_cases i
       (λ aye is. let a = accepted aye in
       subst (λ (r : Result). written_to (book_reply r) used ≤ read_count p p) (sym is)
       (subst (λ (b : Bool). used + length (added_by i) ≤ cond b p 0) (sym ((sizes_mean p p).1 (omega (arith, a.sizes.small, a.sizes.below), le_refl p))) (omega (arith, a.total, a.fits_in))))
@@ -328,7 +328,7 @@ module _ (retailer : ℕ) (distributors file : List ℕ) (ys : List Entry) (used
         aye' = cases (is_booked j) (λ e. e) (λ e. absurd (alike e))
           where
             alike : is_booked j ≡ false → ⊥
-            alike e = result-cases j (λ a _. true≢false (sym a ∙ e)) (λ _ number line some is. result-cases i
+            alike e = result_cases j (λ a _. true≢false (sym a ∙ e)) (λ _ number line some is. result_cases i
                 (λ _ is'. true≢false (ap (λ (r : Result). eqb r.number 0) (sym is' ∙ sym same_answer ∙ is) ∙ some))
                 (λ nay _ _ _ _. true≢false (sym aye ∙ nay)))
 
@@ -342,7 +342,7 @@ module _ (retailer : ℕ) (distributors file : List ℕ) (ys : List Entry) (used
 
     done : Done (book_result i)
     unfolding Done
-    done = result-cases i
+    done = result_cases i
         (λ aye is. subst Done (sym is) (back_accepted aye, (accepted aye).total ∙ sym (used_accepted i aye)))
         (λ nay number line some is. subst Done (sym is) (back_refused number line some ∙ sym (refused_leaves i nay).0, omega arith ∙ sym (refused_leaves i nay).1))
 

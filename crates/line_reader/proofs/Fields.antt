@@ -18,7 +18,7 @@ use lib.Dec.{T}
 use lib.ListN.{length, get_or, take, drop, set, length-drop}
 use lib.Seq.{drop-drop, take-take, get_or-drop, get_or-set_same, get_or-set_other}
 use Rattle.lists.specs.First.{is_byte}
-use Rattle.lists.proofs.First.{first-le}
+use Rattle.lists.proofs.First.{first_le}
 use Rattle.lists.proofs.Parts.{part_length}
 use Rattle.lists.proofs.Table.{every_at}
 use Rattle.records.specs.Text.{cut, fields_of}
@@ -46,7 +46,7 @@ rest_some file a e h = rw (le-leb a e h)
 -- the field that begins at a, of a line that ends at e
 module _ (file : List ℕ) (a e : ℕ) (low : a ≤ e) (high : e ≤ length file) where
   pub end_inside : a + field_end (part file a e) ≤ e
-  end_inside = omega (arith, first-le (is_byte 44) (part file a e), part_length file a e high)
+  end_inside = omega (arith, first_le (is_byte 44) (part file a e), part_length file a e high)
 
   pub field_part : leading_field (part file a e) ≡ part file a (a + field_end (part file a e))
   field_part =

@@ -14,7 +14,7 @@ use borrow.Author.Tests.{eqb-true, eq-eqb, ne_eqb}
 use lib.Dec.{eqb}
 use lib.ListN.{length, get_or}
 use Rattle.lists.specs.Below.{some_below}
-use Rattle.lists.specs.First.{firstWhere, is_byte}
+use Rattle.lists.specs.First.{first_where, is_byte}
 use Rattle.lists.proofs.AllBelow.{at_below}
 use Rattle.lists.proofs.Below.{some_same}
 use Rattle.tables.specs.Types.{FH, type_named, type_letters, letters}
@@ -72,7 +72,7 @@ named_long : (l : List ℕ) → type_named l < 9 → length l ≡ 2
 unfolding type_named
 named_long l h = go (eqb (length l) 2) refl h
   where
-    go : (b : Bool) → eqb (length l) 2 ≡ b → cond b (firstWhere (is_byte (letters l)) type_letters) 9 < 9 → length l ≡ 2
+    go : (b : Bool) → eqb (length l) 2 ≡ b → cond b (first_where (is_byte (letters l)) type_letters) 9 < 9 → length l ≡ 2
     go true e q = eqb-true (length l) 2 e
     go false e q = absurd (omega (arith, q))
 

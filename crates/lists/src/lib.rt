@@ -1,12 +1,12 @@
 // Definitions on lists that contracts cite, with their laws, and the search that many crates use.
 ghost use Rattle.std.specs.Prelude.{◌≡◌, false, ℕ, ◌+◌, ◌≤◌, ◌<◌, length, get_or, drop};
-ghost use Rattle.lists.specs.First.{firstWhere, is_byte};
+ghost use Rattle.lists.specs.First.{first_where, is_byte};
 ghost use Rattle.lists.specs.Bytes.{same_bytes};
 ghost use Rattle.lists.specs.InsideFirstSoFar.{first_after};
 
 // The place of the first byte b of s, or the length where there is none.
 pub fn find(s: &[u8], b: u8) -> usize
-    ensures { result ≡ firstWhere (is_byte b) s.now }
+    ensures { result ≡ first_where (is_byte b) s.now }
 {
     let mut i: usize = 0;
     while i < s.len() {
@@ -36,7 +36,7 @@ fn block_has(block: &[u8], b: u8) -> bool
 // How many bytes at the start of s can be passed over, block by block, before one that has b.
 fn pass_over(s: &[u8], b: u8, width: usize) -> usize
     requires { 0 < width }
-    ensures { (result ≤ length s.now) × (firstWhere (is_byte b) s.now ≡ result + firstWhere (is_byte b) (drop result s.now)) }
+    ensures { (result ≤ length s.now) × (first_where (is_byte b) s.now ≡ result + first_where (is_byte b) (drop result s.now)) }
 {
     let mut i: usize = 0;
     while width <= s.len() - i {
@@ -50,7 +50,7 @@ fn pass_over(s: &[u8], b: u8, width: usize) -> usize
 
 // What find says, for a byte that is likely to stand far from the start: 32 bytes are passed over at a time, and near to it 8.
 pub fn find_far(s: &[u8], b: u8) -> usize
-    ensures { result ≡ firstWhere (is_byte b) s.now }
+    ensures { result ≡ first_where (is_byte b) s.now }
 {
     let far = pass_over(s, b, 32);
     let near = far + pass_over(&s[far..], b, 8);

@@ -5,8 +5,8 @@
 -- Assumes nothing.
 use Rattle.std.proofs.Common.{◌≡◌, ℕ, zero, suc, ◌+◌, ◌-◌, ◌<◌, ◌≤◌, Bool, true, false, eqb, leb, List, [], ◌∷◌, length, get_or, take, drop, sym, refl, ap, ◌∙◌, subst, zero-le, arith, length-drop, length-take-le, get_or-take, take-take, take-add, drop_at, eqb-true, leb-false, leb-true}
 use borrow.Author.Tests.{lt-leb}
-use Rattle.lists.specs.First.{firstWhere, is_byte}
-use Rattle.lists.proofs.First.{first-le}
+use Rattle.lists.specs.First.{first_where, is_byte}
+use Rattle.lists.proofs.First.{first_le}
 use Rattle.digits.specs.Digits.{all_digits, within}
 use Rattle.digits.proofs.Laws.{both_true}
 use Rattle.amounts.specs.Amounts.{point_of, places_part, no_point, is_unsigned}
@@ -24,14 +24,14 @@ told_not false h = refl
 
 -- digits stand before the point
 before_point : (t : List ℕ) (p : ℕ) → p ≤ length t → all_digits (take p t) ≡ true → p ≤ point_of t
-unfolding all_digits firstWhere
+unfolding all_digits first_where
 before_point t zero h d = zero-le
 before_point [] (suc p) h d = absurd (omega arith)
 before_point (b ∷ t) (suc p) h d = let q = not_point b (take p t) d in rw q.0 (let m = before_point t p (omega arith) q.1 in omega arith)
 
 -- the byte at the point
 at_point : (t : List ℕ) → point_of t < length t → get_or t (point_of t) 0 ≡ 46
-unfolding firstWhere
+unfolding first_where
 at_point [] h = absurd (omega arith)
 at_point (b ∷ t) h = go (eqb b 46) refl (at_point t)
   where
@@ -56,7 +56,7 @@ module _ (s : List ℕ) (p whole scale : ℕ) (inside : p ≤ length s) (d : all
   pub whole_is : point_of t ≡ p
   whole_is =
       let most : point_of t ≤ p
-      = longest (point_of t) (omega (arith, point_early, first-le (is_byte 44) s)) (omega (arith, shape.few)) (subst (λ (l : List ℕ). all_digits l ≡ true) (take-take (point_of t) (field_end s) s point_early) shape.digits) in
+      = longest (point_of t) (omega (arith, point_early, first_le (is_byte 44) s)) (omega (arith, shape.few)) (subst (λ (l : List ℕ). all_digits l ≡ true) (take-take (point_of t) (field_end s) s point_early) shape.digits) in
       let least : p ≤ point_of t
       = before_point t p (rw field_length early) (subst (λ (l : List ℕ). all_digits l ≡ true) (sym (take-take p (field_end s) s early)) d) in
       omega (arith, most, least)
@@ -96,7 +96,7 @@ module _ (s : List ℕ) (p whole scale : ℕ) (inside : p ≤ length s) (d : all
         ap (λ (l : List ℕ). drop (p + 1) l) split ∙ drop_at (take (p + 1) s) (take rest (drop (p + 1) s)) (p + 1) (length-take-le (p + 1) s (omega arith)))
 
     rest_inside : rest ≤ length (drop (p + 1) s)
-    rest_inside = omega (arith, length-drop (p + 1) s, first-le (is_byte 44) s)
+    rest_inside = omega (arith, length-drop (p + 1) s, first_le (is_byte 44) s)
 
     after_length : length (places_part t) ≡ rest
     after_length = rw after (length-take-le rest (drop (p + 1) s) rest_inside)

@@ -10,33 +10,33 @@
 use Rattle.std.proofs.Common.{◌≡◌, ℕ, zero, suc, ◌+◌, ◌<◌, ◌≤◌, Bool, true, false, cond, eqb, leb, List, [], ◌∷◌, length, get_or, take, drop, sym, refl, ap, ◌∙◌, zero-le, suc-add, zero-add, arith, length-take-le, eq-eqb, ne_eqb, eqb-true, leb-false, leb-true}
 use borrow.Author.Tests.{eqb-false}
 use lib.ListN.{get_or-eq_default}
-use Rattle.lists.specs.First.{firstWhere, is_byte}
-use Rattle.lists.proofs.First.{first-le}
+use Rattle.lists.specs.First.{first_where, is_byte}
+use Rattle.lists.proofs.First.{first_le}
 use Rattle.digits.specs.Digits.{is_digit, all_digits}
 use Rattle.digits.proofs.Laws.{both_true}
 use Rattle.readings.specs.InsideLeadingBytes.{field_end, leading_field, Ends}
 
 pub field_length : (s : List ℕ) → length (leading_field s) ≡ field_end s
-field_length s = length-take-le (field_end s) s (first-le (is_byte 44) s)
+field_length s = length-take-le (field_end s) s (first_le (is_byte 44) s)
 
 -- ---- where the field ends
 -- no comma stands first
 pub end_first : (b : ℕ) (s : List ℕ) → (b ≡ 44 → ⊥) → field_end (b ∷ s) ≡ suc (field_end s)
-unfolding firstWhere
+unfolding first_where
 end_first b s h = rw (ne_eqb b 44 h)
 
 -- a comma stands first
 pub end_here : (b : ℕ) (s : List ℕ) → b ≡ 44 → field_end (b ∷ s) ≡ 0
-unfolding firstWhere
+unfolding first_where
 end_here b s e = rw (eq-eqb b 44 e)
 
 pub end_none : field_end [] ≡ 0
-unfolding firstWhere
+unfolding first_where
 end_none = refl
 
 -- a byte before the field's end isn't a comma
 pub end_some : (b : ℕ) (s : List ℕ) (k : ℕ) → suc k ≤ field_end (b ∷ s) → (field_end (b ∷ s) ≡ suc (field_end s)) × (k ≤ field_end s)
-unfolding firstWhere
+unfolding first_where
 end_some b s k h = go (eqb b 44) h
   where
     go : (t : Bool) → suc k ≤ cond t 0 (suc (field_end s)) → (cond t 0 (suc (field_end s)) ≡ suc (field_end s)) × (k ≤ field_end s)
@@ -52,7 +52,7 @@ ends_there (b ∷ s) (suc k) e h =
 
 -- the field can end where it does
 pub end_ends : (s : List ℕ) → Ends s (field_end s)
-unfolding firstWhere
+unfolding first_where
 end_ends [] = (omega (arith, end_none), λ l. absurd (omega arith))
 end_ends (b ∷ s) = go (eqb b 44) refl (end_ends s)
   where

@@ -3,7 +3,7 @@
 --     places_below, places_read  the point after them and the digits after it: their number is below a power of ten; what was read
 -- Assumes nothing.
 use Rattle.std.proofs.Common.{◌≡◌, ℕ, zero, suc, ◌+◌, ◌-◌, ◌*◌, ◌^◌, ◌<◌, ◌≤◌, true, false, ◌&&◌, eqb, leb, List, [], ◌∷◌, length, get_or, take, drop, sym, refl, ap, ◌∙◌, subst, lt_of_lt_of_le, zero-mul, arith, length-drop, drop_of_length-le, length-take-le, take_all, get_or-take, take-take, take-add, drop_at, eq-eqb, ne_eqb, le-leb, leb-true}
-use Rattle.lists.specs.First.{firstWhere}
+use Rattle.lists.specs.First.{first_where}
 use Rattle.digits.specs.Digits.{is_digit, all_digits, followed_by, number_of}
 use Rattle.digits.proofs.Laws.{both_true}
 use Rattle.amounts.specs.Amounts.{point_of, is_unsigned, units_of}
@@ -25,13 +25,13 @@ not_point b s d =
 
 -- digits alone have none
 no_point_lem : (t : List ℕ) → all_digits t ≡ true → point_of t ≡ length t
-unfolding all_digits firstWhere
+unfolding all_digits first_where
 no_point_lem [] d = refl
 no_point_lem (b ∷ t) d = let q = not_point b t d in rw q.0 (ap suc (no_point_lem t q.1))
 
 -- digits before the place p, and a point there
 point_at : (t : List ℕ) (p : ℕ) → p < length t → all_digits (take p t) ≡ true → get_or t p 0 ≡ 46 → point_of t ≡ p
-unfolding all_digits firstWhere
+unfolding all_digits first_where
 point_at [] p h d e = absurd (omega arith)
 point_at (b ∷ t) zero h d e = rw (eq-eqb b 46 e)
 point_at (b ∷ t) (suc p) h d e = let q = not_point b (take p t) d in rw q.0 (ap suc (point_at t p (omega arith) q.1 e))

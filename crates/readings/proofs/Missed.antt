@@ -6,7 +6,7 @@
 -- Assumes nothing.
 use Rattle.std.proofs.Common.{◌≡◌, ℕ, ◌<◌, ◌≤◌, Bool, true, false, cond, ◌||◌, eqb, leb, ◌⊎◌, List, length, refl, subst, inl, inr, ⊎_elim, arith, ne_eqb, eqb-true, leb-false, leb-true}
 use Rattle.lists.specs.First.{is_byte}
-use Rattle.lists.proofs.First.{first-le}
+use Rattle.lists.proofs.First.{first_le}
 use Rattle.fields.proofs.Read.{read_value}
 use Rattle.digits.specs.declared.Number.TheVariants.{Other}
 use Rattle.digits.specs.Digits.{digits_of, fixed_digits_of}
@@ -41,7 +41,7 @@ id_ends s r a f =
     (λ some.
     let v = read_value (digits_of (leading_field s)) some in
     let d = digits_say (leading_field s) v.0 v.1 in
-    let most = run_longest s r a (field_end s) (first-le (is_byte 44) s) (omega (arith, d.few, field_length s)) d.digits in
+    let most = run_longest s r a (field_end s) (first_le (is_byte 44) s) (omega (arith, d.few, field_length s)) d.digits in
     omega (arith, least, most))
     (fits_or RecordId (leading_field s) f)
 

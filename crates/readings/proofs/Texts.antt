@@ -4,7 +4,7 @@
 -- Assumes nothing.
 use Rattle.std.proofs.Common.{◌≡◌, ℕ, ◌<◌, ◌≤◌, List, length, take, refl, ◌∙◌, arith, length-take-le, eq-eqb, le-leb}
 use Rattle.lists.specs.First.{is_byte}
-use Rattle.lists.proofs.First.{first-le}
+use Rattle.lists.proofs.First.{first_le}
 use Rattle.fields.specs.declared.FieldType.TheVariants.{Char, Varchar}
 use Rattle.readings.specs.declared.Run.{Run}
 use Rattle.readings.specs.declared.Reading.{Reading}
@@ -31,4 +31,4 @@ pub long_read : (s : List ℕ) (k width : ℕ) (r : Reading) → k ≡ field_end
 unfolding Says
 long_read s k width r e h many l =
     field_read (Varchar width) s r k r.number e
-    (fits_filled_lem (Varchar width) (take k s) (le-leb (length (take k s)) width (rw (length-take-le k s (rw e (first-le (is_byte 44) s))) h))) (λ few. absurd (omega arith)) l refl
+    (fits_filled_lem (Varchar width) (take k s) (le-leb (length (take k s)) width (rw (length-take-le k s (rw e (first_le (is_byte 44) s))) h))) (λ few. absurd (omega arith)) l refl

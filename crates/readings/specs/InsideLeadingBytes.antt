@@ -1,13 +1,13 @@
 -- What stands at the start of a line's bytes: the field there and where it ends, digits, and a short text as one number.
 -- Assumes nothing.
 use Rattle.std.specs.Prelude.{◌≡◌, ℕ, ◌+◌, ◌*◌, ◌<◌, ◌≤◌, true, List, [], ◌∷◌, length, take, slice_index}
-use Rattle.lists.specs.First.{firstWhere, is_byte}
+use Rattle.lists.specs.First.{first_where, is_byte}
 use Rattle.digits.specs.Digits.{all_digits, number_of}
 use Rattle.readings.specs.declared.Run.{Run}
 
 -- where the field at the start of s ends: at the first comma, or at the end
 abbrev pub field_end : List ℕ → ℕ
-field_end s = firstWhere (is_byte 44) s
+field_end s = first_where (is_byte 44) s
 
 abbrev pub leading_field : List ℕ → List ℕ
 leading_field s = take (field_end s) s

@@ -1,5 +1,5 @@
 -- The run that was copied into the words, and the entries that the words are.
---     loaded-cases    they have the same used entries, or neither is sound
+--     loaded_cases    they have the same used entries, or neither is sound
 --     loaded_alike    so what is said of the used entries of a sound ledger, and else something fixed, is said of both alike
 -- Assumes nothing.
 use mathlib.Core.Path.{◌≡◌, sym, subst, ap, ◌∙◌}
@@ -25,8 +25,8 @@ module _ (ns : List ℕ) (zs : List ℤ) (ys : List Entry) (used : ℕ) (loaded 
   abbrev es : List Entry
   es = entries_of ns zs (length ys)
 
-  pub loaded-cases {ξ} : {X : Type ξ} → (length ys ≤ 8192 → used ≤ length ys → take used es ≡ take used ys → X) → (is_sound es used ≡ false → is_sound ys used ≡ false → X) → X
-  loaded-cases same unsound =
+  pub loaded_cases {ξ} : {X : Type ξ} → (length ys ≤ 8192 → used ≤ length ys → take used es ≡ take used ys → X) → (is_sound es used ≡ false → is_sound ys used ≡ false → X) → X
+  loaded_cases same unsound =
       cases (sizes_fit (length ys) used)
       (λ e. let fit = (sizes_mean (length ys) used).0 e in
       same fit.0 fit.1 (take_entries ns zs used (length ys) fit.1 ∙ subst (λ (b : Bool). entries_of ns zs (cond b used 0) ≡ take (cond b used 0) ys) e loaded))
@@ -34,5 +34,5 @@ module _ (ns : List ℕ) (zs : List ℤ) (ys : List Entry) (used : ℕ) (loaded 
 
   pub loaded_alike : {X : Type 0} (f : List Entry → X) (other : X) → cond (is_sound es used) (f (take used es)) other ≡ cond (is_sound ys used) (f (take used ys)) other
   loaded_alike {X} f other =
-      loaded-cases (λ _ _ same. λ t. cond (past_used es ys used same (length_entries ns zs (length ys)) t) (f (same t)) other)
+      loaded_cases (λ _ _ same. λ t. cond (past_used es ys used same (length_entries ns zs (length ys)) t) (f (same t)) other)
       (λ e e'. ap (λ (b : Bool). cond b (f (take used es)) other) e ∙ sym (ap (λ (b : Bool). cond b (f (take used ys)) other) e'))

@@ -3,7 +3,7 @@
 -- Assumes nothing.
 use Rattle.std.specs.Prelude.{ℕ, ◌+◌, ◌*◌, List, [], ◌∷◌, map, Bool, false, cond, ◌&&◌, ◌||◌, length, get_or, eqb, ltb}
 use Prim.Native.String.{String}
-use Rattle.lists.specs.First.{firstWhere, is_byte}
+use Rattle.lists.specs.First.{first_where, is_byte}
 use Rattle.lists.specs.Written.{written}
 
 -- ---- types are counted from 0, in this order
@@ -46,7 +46,7 @@ type_letters = map (λ (name : String). letters (written name)) type_names
 
 -- the place of a name among the types, or 9 where it is none of them
 unfoldable pub type_named : List ℕ → ℕ
-type_named l = cond (eqb (length l) 2) (firstWhere (is_byte (letters l)) type_letters) 9
+type_named l = cond (eqb (length l) 2) (first_where (is_byte (letters l)) type_letters) 9
 
 -- ---- document 01, "Tests", 4: "which type may follow which is a fixed table"
 abbrev pub followers : List (List ℕ)

@@ -13,7 +13,7 @@ use native.Mathlib.Numerals.{add-one}
 use native.Mathlib.Omega.{arith}
 use lib.ListN.{length, set, take}
 use lib.Seq.{take-suc}
-use Rattle.lists.specs.First.{firstWhere}
+use Rattle.lists.specs.First.{first_where}
 use Rattle.bill_files.specs.Accepted.{Bill}
 use Rattle.entries.specs.declared.Entry.{Entry}
 use Rattle.entries.specs.Entries.{entry_of, in_state}
@@ -24,34 +24,34 @@ use Rattle.booking.proofs.Added.{length_cancelled}
 use Rattle.used_entries.specs.InsideNamed.{cancelled_by}
 
 -- ---- the named entry, by its place
-pub named_some : (c : Bill) (l : List Entry) → firstWhere (names_entry c) l < length l → named_entry c l ≡ some (entry_of l (firstWhere (names_entry c) l))
-unfolding firstWhere
+pub named_some : (c : Bill) (l : List Entry) → first_where (names_entry c) l < length l → named_entry c l ≡ some (entry_of l (first_where (names_entry c) l))
+unfolding first_where
 named_some c [] h = absurd (omega arith)
 named_some c (e ∷ l) h = go (names_entry c e) h (λ k. named_some c l k)
   where
-    go : (t : Bool) → cond t 0 (suc (firstWhere (names_entry c) l)) < suc (length l)
-        → (firstWhere (names_entry c) l < length l → named_entry c l ≡ some (entry_of l (firstWhere (names_entry c) l)))
-        → cond t (some e) (named_entry c l) ≡ some (entry_of (e ∷ l) (cond t 0 (suc (firstWhere (names_entry c) l))))
+    go : (t : Bool) → cond t 0 (suc (first_where (names_entry c) l)) < suc (length l)
+        → (first_where (names_entry c) l < length l → named_entry c l ≡ some (entry_of l (first_where (names_entry c) l)))
+        → cond t (some e) (named_entry c l) ≡ some (entry_of (e ∷ l) (cond t 0 (suc (first_where (names_entry c) l))))
     go true h more = refl
     go false h more = more (omega arith)
 
-pub named_none : (c : Bill) (l : List Entry) → length l ≤ firstWhere (names_entry c) l → named_entry c l ≡ none
-unfolding firstWhere
+pub named_none : (c : Bill) (l : List Entry) → length l ≤ first_where (names_entry c) l → named_entry c l ≡ none
+unfolding first_where
 named_none c [] h = refl
 named_none c (e ∷ l) h = go (names_entry c e) h (λ k. named_none c l k)
   where
-    go : (t : Bool) → suc (length l) ≤ cond t 0 (suc (firstWhere (names_entry c) l)) → (length l ≤ firstWhere (names_entry c) l → named_entry c l ≡ none)
+    go : (t : Bool) → suc (length l) ≤ cond t 0 (suc (first_where (names_entry c) l)) → (length l ≤ first_where (names_entry c) l → named_entry c l ≡ none)
         → cond t (some e) (named_entry c l) ≡ none
     go true h more = absurd (omega arith)
     go false h more = more (omega arith)
 
-pub cancel_first : (c : Bill) (l : List Entry) (p : ℕ) → firstWhere (names_entry c) l ≡ p → p < length l → cancel_named c l ≡ set l p (in_state (entry_of l p) 3)
-unfolding firstWhere
+pub cancel_first : (c : Bill) (l : List Entry) (p : ℕ) → first_where (names_entry c) l ≡ p → p < length l → cancel_named c l ≡ set l p (in_state (entry_of l p) 3)
+unfolding first_where
 cancel_first c [] p e h = absurd (omega arith)
 cancel_first c (x ∷ l) p e h = go (λ p e h. cancel_first c l p e h) (names_entry c x) p e h
   where
-    go : ((p : ℕ) → firstWhere (names_entry c) l ≡ p → p < length l → cancel_named c l ≡ set l p (in_state (entry_of l p) 3))
-        → (t : Bool) (p : ℕ) → cond t 0 (suc (firstWhere (names_entry c) l)) ≡ p → p < suc (length l)
+    go : ((p : ℕ) → first_where (names_entry c) l ≡ p → p < length l → cancel_named c l ≡ set l p (in_state (entry_of l p) 3))
+        → (t : Bool) (p : ℕ) → cond t 0 (suc (first_where (names_entry c) l)) ≡ p → p < suc (length l)
         → cond t (in_state x 3 ∷ l) (x ∷ cancel_named c l) ≡ set (x ∷ l) p (in_state (entry_of (x ∷ l) p) 3)
     go more true zero e h = refl
     go more true (suc p) e h = absurd (omega (arith, e))

@@ -11,7 +11,7 @@ use borrow.Author.Tests.{eqb-true}
 use lib.Dec.{eqb}
 use lib.IntN.{ℤ}
 use Rattle.lists.specs.Below.{first_from, first_below}
-use Rattle.lists.specs.First.{firstWhere}
+use Rattle.lists.specs.First.{first_where}
 use Rattle.lists.proofs.Reflected.{both_of}
 use Rattle.calendar.specs.Periods.{shares_day}
 use Rattle.entries.specs.declared.Entry.{Entry}
@@ -30,19 +30,19 @@ module _ (words : List ℕ) (amounts : List ℤ) where
       eqb-true _ _ ((both_of (is_live_period e) (eqb e.site a.site)).0 live-there).1
 
   module _ (f : Entry → Bool) where
-    first_from_lem : (n i : ℕ) → first_from (λ (p : ℕ). f (entry_at words amounts p)) i n ≡ i + firstWhere f (entries_from words amounts i n)
-    unfolding first_from firstWhere entries_from
+    first_from_lem : (n i : ℕ) → first_from (λ (p : ℕ). f (entry_at words amounts p)) i n ≡ i + first_where f (entries_from words amounts i n)
+    unfolding first_from first_where entries_from
     first_from_lem zero i = sym (add-zero i)
     first_from_lem (suc n) i = go (f (entry_at words amounts i)) (first_from_lem n (suc i))
       where
         rest : ℕ
-        rest = firstWhere f (entries_from words amounts (suc i) n)
+        rest = first_where f (entries_from words amounts (suc i) n)
 
         go : (t : Bool) → first_from (λ (p : ℕ). f (entry_at words amounts p)) (suc i) n ≡ suc i + rest
             → cond t i (first_from (λ (p : ℕ). f (entry_at words amounts p)) (suc i) n) ≡ i + cond t 0 (suc rest)
         go true more = sym (add-zero i)
         go false more = more ∙ suc-add i rest ∙ sym (add-suc i rest)
 
-    pub first_entry : (n : ℕ) → first_below (λ (p : ℕ). f (entry_at words amounts p)) n ≡ firstWhere f (entries_of words amounts n)
+    pub first_entry : (n : ℕ) → first_below (λ (p : ℕ). f (entry_at words amounts p)) n ≡ first_where f (entries_of words amounts n)
     unfolding first_below
     first_entry n = first_from_lem n 0 ∙ zero-add _

@@ -1,7 +1,7 @@
 -- The place of the entry that each cancel of a file names.
 -- Assumes nothing.
 use Rattle.std.specs.Prelude.{◌≡◌, true, cond, List, [], ◌∷◌, ℕ, ◌≤◌, ◌<◌, length, get_or, take}
-use Rattle.lists.specs.First.{firstWhere}
+use Rattle.lists.specs.First.{first_where}
 use Rattle.bill_files.specs.Accepted.{Bill}
 use Rattle.entries.specs.declared.Entry.{Entry}
 use Rattle.booking.specs.Booking.{names_entry, cancel_named}
@@ -14,7 +14,7 @@ cancelled_by l (b ∷ bs) = cancelled_by (cond b.cancel (cancel_named b l) l) bs
 
 -- the place of the earliest that the cancel at k names, in the ledger as those before it leave it
 abbrev pub named_place : List Entry → List Bill → ℕ → ℕ
-named_place l bills k = firstWhere (names_entry (bill_at bills k)) (cancelled_by l (take k bills))
+named_place l bills k = first_where (names_entry (bill_at bills k)) (cancelled_by l (take k bills))
 
 -- a column has it for each cancel, and each names one
 pub record Named (l : List Entry) (bills : List Bill) (named : List ℕ) : Type 0 where

@@ -1,7 +1,7 @@
 // The used entries of a ledger by their keys, and by their sites: one pass puts them into chains, and a search reads the entries of one chain, each of them
 // tested itself.
 ghost use Rattle.std.specs.Prelude.{◌≡◌, ℕ, ◌+◌, get_or, ◌&&◌, eqb};
-ghost use Rattle.lists.specs.First.{firstWhere};
+ghost use Rattle.lists.specs.First.{first_where};
 ghost use Rattle.entries.specs.InsideWords.{RoomFor, entries_of};
 ghost use Rattle.buckets.specs.InsideChains.{ChainRoom};
 ghost use Rattle.used_entries.specs.InsideSited.{BySite, overlaps_entry};
@@ -52,7 +52,7 @@ pub fn first_overlap(
     a: Entry,
 ) -> usize
     requires { RoomFor n words.now amounts.now × BySite words.now amounts.now n heads.now links.now }
-    ensures { result ≡ firstWhere (overlaps_entry a) (entries_of words.now amounts.now n) }
+    ensures { result ≡ first_where (overlaps_entry a) (entries_of words.now amounts.now n) }
 {
     let mut first = n;
     let mut at = buckets::head(heads, a.site);

@@ -3,7 +3,7 @@
 use Rattle.readings.proofs.Fields.{field_read}
 use Rattle.readings.specs.InsideReadings.{Says}
 use Rattle.fields.specs.declared.FieldType.TheVariants.{DateTime}
-use Rattle.lists.proofs.First.{first-le}
+use Rattle.lists.proofs.First.{first_le}
 use Rattle.lists.specs.First.{is_byte}
 use Rattle.std.proofs.Common.{◌≡◌, ℕ, ◌≤◌, false, length, take, sym, ◌∙◌, subst, arith, length-take-le, rules}
 use Rattle.fields.specs.Fields.{fits_type}
@@ -11,7 +11,7 @@ use Rattle.readings.proofs.read_date_time.Statement.{statement}
 use Rattle.readings.proofs.read_date_time.Tie as tie
 
 inside : (c : tie.After-find) → c.find.result ≤ length c.before.before.before.args.s.now
-inside c = omega (arith, first-le (is_byte 44) c.before.before.before.args.s.now, c.find.ensures)
+inside c = omega (arith, first_le (is_byte 44) c.before.before.before.args.s.now, c.find.ensures)
 
 slice-aggregate-is-date-time : tie.Need-slice-aggregate-is-date-time
 slice-aggregate-is-date-time c = sym (length-take-le c.before.find.result c.before.before.before.before.args.s.now (inside c.before))

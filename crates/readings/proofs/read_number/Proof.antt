@@ -3,8 +3,8 @@
 use Rattle.std.proofs.Common.{◌≡◌, ℕ, ◌-◌, ◌≤◌, cond, eqb, length, get_or, drop, sym, ap, ◌∙◌, ⊎_elim, zero-le, arith, length-drop, rules, eq-eqb, ne_eqb}
 use borrow.Author.Tests.{not-false, not-true}
 use Rattle.lists.specs.First.{is_byte}
-use Rattle.lists.proofs.First.{first-le}
-use Rattle.lists.proofs.Parts.{part-rest}
+use Rattle.lists.proofs.First.{first_le}
+use Rattle.lists.proofs.Parts.{part_rest}
 use Rattle.amounts.specs.InsideSaid.{said_by}
 use Rattle.fields.specs.declared.FieldType.TheVariants.{Number}
 use Rattle.readings.specs.InsideAmountReadings.{MagnitudeRead, MagnitudeTold}
@@ -49,7 +49,7 @@ part-read-magnitude-start c = omega (arith, minus-inside c.before)
 -- what stands after the minus
 size : (c : tie.After-read-magnitude) → let a = c.before.before.before.before.before.before.before.before.args in
     MagnitudeTold (a.precision - a.scale) a.scale (drop c.before.before.before.if3.minus a.s.now) c.read-magnitude.result
-size c = rw part-rest at c.read-magnitude.ensures
+size c = rw part_rest at c.read-magnitude.ensures
 
 size-read : (c : tie.Else4) → let a = c.before.before.before.before.before.before.before.before.before.args in
     MagnitudeRead (a.precision - a.scale) a.scale (drop c.before.before.before.before.if3.minus a.s.now) c.before.read-magnitude.result
@@ -69,7 +69,7 @@ add_reads : tie.Need-overflow-add-reads
 add_reads c =
     let p = c.before.before.before.before in
     let rest = drop p.if3.minus p.before.before.before.before.before.args.s.now in
-    omega (arith, (size-read c).ends, first-le (is_byte 44) rest, length-drop p.if3.minus p.before.before.before.before.before.args.s.now, minus-inside p)
+    omega (arith, (size-read c).ends, first_le (is_byte 44) rest, length-drop p.if3.minus p.before.before.before.before.before.args.s.now, minus-inside p)
 
 saying-requires : tie.Need-saying-requires
 saying-requires c κs = (size-read c).small

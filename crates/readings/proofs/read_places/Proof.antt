@@ -4,7 +4,7 @@ use borrow.Author.Tests.{not-false, not-true}
 use Rattle.std.proofs.Common.{◌≡◌, ℕ, ◌+◌, ◌<◌, ◌≤◌, true, length, get_or, drop, sym, ◌∙◌, subst, arith, rules}
 use Rattle.readings.specs.InsideLeadingBytes.{field_end, leading_field, Ends, AllRead}
 use Rattle.amounts.specs.Amounts.{is_unsigned}
-use Rattle.lists.proofs.Parts.{part-rest}
+use Rattle.lists.proofs.Parts.{part_rest}
 use Rattle.readings.proofs.Ends.{end_ends, next_ends, next_inside, next_is}
 use Rattle.readings.proofs.Magnitudes.{whole_below, whole_read, places_below, places_read}
 use Rattle.readings.proofs.AmountsMissed.{told_not, whole_next, places_are}
@@ -54,7 +54,7 @@ part-leading-digits-start c = omega (arith, (dot c).0)
 
 -- the digits after it
 after : (c : tie.After-leading-digits) → let a = c.before.before.before.before.before.before.args in AllRead (drop (a.p + 1) a.s.now) c.leading-digits.result
-after c = simp part-rest at c.leading-digits.ensures
+after c = simp part_rest at c.leading-digits.ensures
 
 -- where the field is an amount, they are all that stand after the point
 found : (c : tie.After-leading-digits) → let a = c.before.before.before.before.before.before.args in is_unsigned a.whole a.scale (leading_field a.s.now) ≡ true

@@ -3,9 +3,9 @@
 use Rattle.records.proofs.Placed.{Going, going_none, going_more, going_end, going_count}
 use Rattle.records.proofs.Cut.{lines_step, lines_some, lines_none}
 use Rattle.records.specs.Text.{lines_of}
-use Rattle.lists.proofs.Parts.{part-rest}
-use Rattle.lists.proofs.First.{first-le}
-use Rattle.lists.specs.First.{firstWhere, is_byte}
+use Rattle.lists.proofs.Parts.{part_rest}
+use Rattle.lists.proofs.First.{first_le}
+use Rattle.lists.specs.First.{first_where, is_byte}
 use lib.ListN.{length, drop, length-set, length-drop, drop_of_length-le}
 use Prim.Native.Nat.{ℕ, ◌+◌, ◌-◌, ◌≤◌, ◌<◌}
 use mathlib.Core.Logic.{inl, inr}
@@ -37,13 +37,13 @@ returns c = inl (omega (arith, more c.before))
 returns-2 : tie.Need-returns-2 invariant-loop decreases-loop
 returns-2 c = inr (omega (arith, more c.before.before))
 
-found : (c : tie.After-find-far invariant-loop decreases-loop) → c.find-far.result ≡ firstWhere (is_byte 10) (drop c.before.before.before.before.before.loop.a c.before.before.before.before.before.before.before.before.before.args.file.now)
-found c = simp part-rest at c.find-far.ensures
+found : (c : tie.After-find-far invariant-loop decreases-loop) → c.find-far.result ≡ first_where (is_byte 10) (drop c.before.before.before.before.before.loop.a c.before.before.before.before.before.before.before.before.before.args.file.now)
+found c = simp part_rest at c.find-far.ensures
 
 near : (c : tie.After-find-far invariant-loop decreases-loop) → c.before.before.before.before.before.loop.a + c.find-far.result ≤ length c.before.before.before.before.before.before.before.before.before.args.file.now
 near c =
     let f = drop c.before.before.before.before.before.loop.a c.before.before.before.before.before.before.before.before.before.args.file.now in
-    omega (arith, found c, first-le (is_byte 10) f, length-drop c.before.before.before.before.before.loop.a c.before.before.before.before.before.before.before.before.before.args.file.now)
+    omega (arith, found c, first_le (is_byte 10) f, length-drop c.before.before.before.before.before.loop.a c.before.before.before.before.before.before.before.before.before.args.file.now)
 
 add-e : tie.Need-overflow-add-e invariant-loop decreases-loop
 add-e c = omega (arith, near c)

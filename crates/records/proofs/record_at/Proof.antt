@@ -8,7 +8,7 @@ use Rattle.records.proofs.Placed.{Going, going_none, going_more, going_end, goin
 use Rattle.records.proofs.Cut.{part_length, fields_more, fields_last, cut_some}
 use Rattle.records.specs.InsidePlacedLines.{part, Placed}
 use Rattle.records.specs.Text.{fields_of}
-use Rattle.lists.proofs.First.{first-le}
+use Rattle.lists.proofs.First.{first_le}
 use Rattle.lists.specs.First.{is_byte}
 use lib.ListN.{length, set, length-set}
 use Prim.Native.Nat.{ℕ, ◌+◌, ◌-◌, ◌≤◌, ◌<◌, zero-le}
@@ -32,7 +32,7 @@ near : (c : tie.After-find invariant-loop decreases-loop) → c.before.before.be
 near c =
     let a = c.before.before.before.before.before.args in
     let l = part a.file.now c.before.before.before.loop.a a.end in
-    omega (arith, c.find.ensures, first-le (is_byte 44) l, part_length a.file.now c.before.before.before.loop.a a.end (omega arith))
+    omega (arith, c.find.ensures, first_le (is_byte 44) l, part_length a.file.now c.before.before.before.loop.a a.end (omega arith))
 
 add-e : tie.Need-overflow-add-e invariant-loop decreases-loop
 add-e c = omega (arith, near c)
