@@ -1,4 +1,7 @@
 // The entries of an accepted file, written into the words of a ledger: the file entry, the cancels and what they cancel, the originals in their states.
+
+#![tactic(auto)]
+
 ghost use Rattle.std.specs.Prelude.{◌≡◌, true, false, cond, ℕ, ◌+◌, ◌≤◌, ◌<◌, eqb, length, get_or, set, take, drop};
 ghost use Rattle.lists.specs.Selections.{count};
 ghost use Rattle.entries.specs.Entries.{entry_of, in_state, is_held};
@@ -13,7 +16,7 @@ ghost use Rattle.accepted_entries.specs.InsideAccepted.{Leaves, with_cancel, sta
 use entries::Entry;
 
 // How many entries are in use, and how many of those written are held.
-#[derive(Drop)]
+#[derive(Clone, Copy)]
 pub struct Written {
     pub used: usize,
     pub held: usize,

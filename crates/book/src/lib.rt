@@ -1,4 +1,7 @@
 // Book on a ledger in words: refusals in document 01's order, and then the entries. Nothing is written before the last refusal is decided.
+
+#![tactic(auto)]
+
 ghost use Rattle.std.specs.Prelude.{◌≡◌, List, ℕ, ◌≤◌, length};
 ghost use Rattle.records.specs.Text.{lines_of};
 ghost use Rattle.records.specs.InsidePlacedLines.{Placed};

@@ -1,9 +1,12 @@
 // Booking: its definition stands in specs/, its laws and the guarantee over lists of bookings in proofs/. Here is the type of Book's answer.
+
+#![tactic(auto)]
+
 ghost use Rattle.std.specs.Prelude.{◌≡◌, ℕ, ◌+◌, ◌≤◌};
 ghost use Rattle.booking.specs.Booking.{result_of, accepted_result};
 
 // A refusal's number and line, or how many entries were added and how many of them are held.
-#[derive(Drop)]
+#[derive(Clone, Copy)]
 pub enum Answer {
     Refused(usize, usize),
     Accepted(usize, usize),

@@ -1,6 +1,9 @@
 // Places by their values, in buckets: the first place that has a value, by a tree in each bucket, and all places that have one, by a chain.
 // In a tree a search looks at one place for each bit of its value at most, however the values are chosen.
 // A place stands as itself and one, in 16 bits: there are at most 65,535 places.
+
+#![tactic(auto)]
+
 ghost use Rattle.std.specs.Prelude.{◌≡◌, ℕ, ◌+◌, ◌-◌, ◌*◌, ◌≤◌, ◌<◌, length, get_or};
 ghost use Rattle.buckets.specs.InsideBuckets.{first_place, Led, bucket_of};
 ghost use Rattle.lists.specs.Below.{first_below};
@@ -17,7 +20,7 @@ pub fn bucket(value: u64, size: usize) -> usize
 }
 
 // Where a search ends: the slot, and what it holds.
-#[derive(Drop)]
+#[derive(Clone, Copy)]
 pub struct Spot {
     pub slot: usize,
     pub content: usize,

@@ -1,4 +1,7 @@
 // Days of the years 2000 to 2099, dates and date times, and periods of days. Day 0 is 1 January 2000.
+
+#![tactic(auto)]
+
 ghost use Rattle.std.specs.Prelude.{◌≡◌, ◌≤◌, ◌<◌, min, max};
 ghost use Rattle.calendar.specs.Calendar.{leap_year, month_days, first_day, date_day, day_of, at_time, date_time_of};
 ghost use Rattle.calendar.specs.InsideFirstDays.{first_days};
@@ -6,21 +9,21 @@ ghost use Rattle.calendar.specs.Periods.{shares_day};
 
 use digits::Number;
 
-#[derive(Drop)]
+#[derive(Clone, Copy)]
 pub enum Day {
     At(u64),
     NotADate,
 }
 
 // A day, and a second of it.
-#[derive(Drop)]
+#[derive(Clone, Copy)]
 pub enum DateTime {
     Second(u64, u64),
     NotADateTime,
 }
 
 // A period has both its start day and its end day.
-#[derive(Drop)]
+#[derive(Clone, Copy)]
 pub struct Period {
     pub start: u64,
     pub end: u64,

@@ -1,4 +1,7 @@
 // By the numbers that a line's fields say: whether its codes pass test 7, and what the columns hold of it.
+
+#![tactic(auto)]
+
 ghost use Rattle.std.specs.Prelude.{◌≡◌, ◌||◌, eqb, ◌+◌, ◌≤◌, ◌<◌, length, get_or, set};
 ghost use Rattle.format.specs.Format.{commodity_fields, unit_fields, cancel_fields, exemption_fields};
 ghost use Rattle.columns.specs.InsideColumns.{Room};

@@ -1,4 +1,7 @@
 // Columns: the numbers and amounts of each record. Which field each of them holds, and the column of a run of words.
+
+#![tactic(auto)]
+
 ghost use Rattle.std.specs.Prelude.{◌≡◌, ◌*◌, ◌≤◌, ◌<◌, length};
 ghost use Rattle.columns.specs.InsideColumns.{column_at};
 ghost use Rattle.columns.specs.InsideRows.{column_fields};

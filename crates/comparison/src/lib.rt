@@ -1,5 +1,8 @@
 // What the comparison tests and benchmarks call besides the host's functions: the readings of single fields, and the writing of dates and of a dispute's line. A reading answers 0, or 3 where the
 // bytes miss their type; then what stands behind its references is left as it was.
+
+#![tactic(auto)]
+
 ghost use Rattle.std.specs.Prelude.{◌≡◌, ◌≤◌, length};
 ghost use Rattle.calendar.specs.Calendar.{date_time_of};
 ghost use Rattle.comparison.specs.InsideDates.{date_number, date_after};

@@ -1,5 +1,8 @@
 // Test 6 of one record: which of its conditional fields its conditions ask for, by the numbers that its fields say, and whether one of them is empty, by
 // the places of its fields.
+
+#![tactic(auto)]
+
 ghost use Rattle.std.specs.Prelude.{◌≡◌, List, ℕ, ◌+◌, ◌≤◌, eqb, get_or};
 ghost use Rattle.lists.specs.Below.{some_below};
 ghost use Rattle.amounts.specs.InsideSaid.{said_by};

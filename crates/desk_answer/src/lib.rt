@@ -1,4 +1,7 @@
 // What the desk program prints, from the bytes that it reads: the program above it reads and writes, and nothing more.
+
+#![tactic(auto)]
+
 ghost use Rattle.std.specs.Prelude.{◌≡◌, ◌≤◌, length};
 ghost use Rattle.booking.specs.Booking.{result_of};
 ghost use Rattle.writing.specs.InsideWriting.{written_at};

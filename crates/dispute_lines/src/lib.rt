@@ -1,4 +1,7 @@
 // The line of a tariff bill dispute (TBD) transaction, laid out as Table 4-14: what one says, in specs/, and how one is written.
+
+#![tactic(auto)]
+
 ghost use Rattle.std.specs.Prelude.{◌≡◌, List, ℕ, ◌+◌, ◌≤◌, ◌<◌, length};
 ghost use Rattle.writing.specs.InsideWriting.{written_at};
 ghost use Rattle.written_lines.specs.InsidePut.{Put};
@@ -7,7 +10,7 @@ ghost use Rattle.dispute_lines.specs.InsideHalves.{first_fields, last_fields, st
 ghost use Rattle.dispute_lines.specs.Line.{shown_id, dispute_line};
 
 // What a dispute says in numbers. It is of a period, or of a one-time charge (`once`), whose Record ID is `id`; `file` is the Tariff Bill File Record ID.
-#[derive(Drop)]
+#[derive(Clone, Copy)]
 pub struct Dispute {
     pub transaction: u64,
     pub retailer: u64,
@@ -21,7 +24,7 @@ pub struct Dispute {
 
 // A field that is read: 1 and the number that its digits write, or 0 and 0 where it is empty.
 #[repr(C)]
-#[derive(Drop)]
+#[derive(Clone, Copy)]
 pub struct DisputeField {
     pub filled: u64,
     pub value: u64,
@@ -29,7 +32,7 @@ pub struct DisputeField {
 
 // The same of the Dispute Code, whose type, Number(4), has a minus.
 #[repr(C)]
-#[derive(Drop)]
+#[derive(Clone, Copy)]
 pub struct CodeField {
     pub filled: u64,
     pub value: i64,
@@ -37,7 +40,7 @@ pub struct CodeField {
 
 // The answer to a host that reads a dispute: document 01's number, and where it is 0 the fields 2 to 11 of Table 4-14.
 #[repr(C)]
-#[derive(Drop)]
+#[derive(Clone, Copy)]
 pub struct DisputeReply {
     pub number: u64,
     pub transaction: DisputeField,

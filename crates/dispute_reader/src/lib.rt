@@ -1,4 +1,7 @@
 // One line of a tariff bill dispute (TBD) transaction, read: test 2, then test 3, then what its fields say.
+
+#![tactic(auto)]
+
 ghost use Rattle.std.specs.Prelude.{◌≡◌, [], ◌≤◌, length};
 ghost use Rattle.fields.specs.declared.FieldType.TheVariants.{DateTime};
 ghost use Rattle.records.specs.InsidePlacedLines.{part};
@@ -12,20 +15,20 @@ use dispute_lines::{CodeField, DisputeField, DisputeReply};
 use records::Lines;
 
 // Whether a field fits its type, and then what it says.
-#[derive(Drop)]
+#[derive(Clone, Copy)]
 pub struct Said {
     pub fits: bool,
     pub field: DisputeField,
 }
 
-#[derive(Drop)]
+#[derive(Clone, Copy)]
 pub struct CodeRead {
     pub fits: bool,
     pub field: CodeField,
 }
 
 // Who sent a line and when: whether the fields fit their types, and then what they say.
-#[derive(Drop)]
+#[derive(Clone, Copy)]
 pub struct Sender {
     pub fits: bool,
     pub transaction: DisputeField,
@@ -35,7 +38,7 @@ pub struct Sender {
 }
 
 // The same of what a line disputes.
-#[derive(Drop)]
+#[derive(Clone, Copy)]
 pub struct Subject {
     pub fits: bool,
     pub file: DisputeField,

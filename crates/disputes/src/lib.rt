@@ -1,4 +1,7 @@
 // Disputes of held entries: the refusals in request 4's order, then the line of the transaction.
+
+#![tactic(auto)]
+
 ghost use Rattle.std.specs.Prelude.{◌≡◌, false, ◌*◌, ◌^◌, ◌<◌};
 ghost use Rattle.disputes.specs.Disputes.{supplied};
 ghost use Rattle.disputes.specs.InsideHeldEntry.{IdsRead, DisputedBy};
@@ -12,7 +15,7 @@ use ledger::HeldReply;
 const OVERLAP: u64 = 7004;
 
 // Whether the supplied fields are filled and fit their types, and then the numbers of the two IDs among them.
-#[derive(Drop)]
+#[derive(Clone, Copy)]
 pub struct Ids {
     pub fit: bool,
     pub transaction: u64,

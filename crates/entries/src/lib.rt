@@ -1,4 +1,7 @@
 // The ledger's entries: by value, and in two lent runs of numbers, nine words and two amounts an entry.
+
+#![tactic(auto)]
+
 ghost use Rattle.std.specs.Prelude.{◌≡◌, ◌+◌, length};
 ghost use Rattle.entries.specs.Entries.{in_state, period};
 ghost use Rattle.entries.specs.InsideWords.{RoomFor, entry_at, writes, words_at, amounts_at};
@@ -28,7 +31,7 @@ pub const CANCEL: u64 = 4;
 
 // The fields of document 01, and nothing else.
 #[repr(C)]
-#[derive(Drop)]
+#[derive(Clone, Copy)]
 pub struct Entry {
     pub sender: u64,
     pub commodity: u64,

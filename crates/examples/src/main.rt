@@ -1,6 +1,9 @@
 // Prints what stands in document 01 as examples, and more of their kind. First, for the desk examples that read the ledger, what Book, Totals and Find answer,
 // charges in cents. Then how some fields, most of them damaged, are read: as a Record ID, as an amount of Number(11,2) and as a date. Last, each code of
 // A5.24 with the numbers from 0 to 120 that `refusals::code_of` gives it and, after 107, each number that it refuses.
+
+#![tactic(auto)]
+
 ghost use Rattle.std.specs.Prelude.{◌≡◌, ◌≤◌};
 ghost use Rattle.io.specs.Counts.{IsPrefixLen};
 ghost use Rattle.entries.specs.InsideWords.{RoomFor};

@@ -1,11 +1,14 @@
 // Which bytes fit which type of field.
+
+#![tactic(auto)]
+
 ghost use Rattle.std.specs.Prelude.{◌≡◌};
 ghost use Rattle.calendar.specs.InsideFirstDays.{first_days};
 ghost use Rattle.fields.specs.Fields.{is_moment, fits_type};
 ghost use Rattle.fields.specs.declared.FieldType.TheVariants.{DateTime};
 
 // The types of Tables 4-2 to 4-10. An ID of fixed length is Digits.
-#[derive(Drop)]
+#[derive(Clone, Copy)]
 pub enum FieldType {
     RecordId,
     Digits(usize),

@@ -1,4 +1,7 @@
 // The TH and OC of a file, and the file's own entry, from the columns: what Book's tests and its entries rest on.
+
+#![tactic(auto)]
+
 ghost use Rattle.std.specs.Prelude.{◌≡◌, true, cond, ◌||◌, ◌+◌, ◌-◌, ◌*◌, ◌≤◌, ◌<◌, eqb, pos, length, get_or};
 ghost use Rattle.lists.specs.Bytes.{same_bytes};
 ghost use Rattle.lists.specs.Written.{written};

@@ -1,4 +1,7 @@
 // Tests 2 and 4: the format of a line, and the order of the lines' types.
+
+#![tactic(auto)]
+
 ghost use Rattle.std.specs.Prelude.{◌≡◌, not, ◌≤◌, ◌<◌, length, get_or};
 ghost use Rattle.lists.specs.Below.{some_below};
 ghost use Rattle.records.specs.InsidePlacedLines.{part};

@@ -1,4 +1,7 @@
 // Tests 11, 12 and 33: what FH and FT say of the whole file, by the numbers that were read of them.
+
+#![tactic(auto)]
+
 ghost use Rattle.std.specs.Prelude.{◌≡◌, false, cond, ◌+◌, ◌-◌, ◌≤◌, ◌/◌, eqb, length, pos};
 ghost use Rattle.lists.specs.Below.{some_below};
 ghost use Rattle.amounts.specs.Amounts.{or_zero};

@@ -1,4 +1,7 @@
 // Tests 9, 10, 17 and 38: their definitions, test 9, and how a record is compared with the one that it hangs under.
+
+#![tactic(auto)]
+
 ghost use Rattle.std.specs.Prelude.{◌≡◌, false, cond, not, ◌-◌, ◌≤◌, eqb, length};
 ghost use Rattle.tables.specs.Groups.{at};
 ghost use Rattle.identity.specs.Identity.{first_repeated};

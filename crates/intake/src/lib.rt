@@ -1,6 +1,9 @@
 // What the host program calls, as host/intake.h declares it. The answer of Check, of a dispute that is written, of a date and of a code is the refusal's number
 // times 2 ^ 32, and in the lower 32 bits the line, the length or the value asked for; that of Book, Totals, Find, of an amount and of a dispute that is read is a
 // struct of document 01's number and values.
+
+#![tactic(auto)]
+
 ghost use Rattle.std.specs.Prelude.{◌≡◌};
 ghost use Rattle.amounts.specs.Amounts.{amount_of};
 ghost use Rattle.amounts.specs.Replies.{amount_reply};

@@ -1,4 +1,7 @@
 // 8, 39, 40, 102 and 101 in their order, over a ledger whose used entries are in chains by their keys, and over the TH and OC of a file as entries.
+
+#![tactic(auto)]
+
 ghost use Rattle.std.specs.Prelude.{◌≡◌, true, not, ◌&&◌, ℕ, ◌≤◌, ◌<◌, ◌+◌, length, get_or};
 ghost use Rattle.entries.specs.InsideWords.{RoomFor, entry_at, entries_of};
 ghost use Rattle.soundness.specs.Sound.{opposite};

@@ -1,5 +1,8 @@
 // Totals, Find, the held entry at a place, and Book on a lent run of entries, of any length: the used entries are copied into words, and the ledger's functions
 // work on these. What Book changed or added is copied back.
+
+#![tactic(auto)]
+
 ghost use Rattle.std.specs.Prelude.{◌≡◌, ◌+◌, ◌≤◌, length};
 ghost use Rattle.records.specs.Text.{lines_of};
 ghost use Rattle.entries.specs.InsideWords.{RoomFor, entries_of};
@@ -18,7 +21,7 @@ use ledger::{FindReply, HeldReply, TotalsReply};
 
 // The answer of Book: a refusal's number and line; or 0, and how many entries were added and how many held.
 #[repr(C)]
-#[derive(Drop)]
+#[derive(Clone, Copy)]
 pub struct BookReply {
     pub number: u64,
     pub line: u64,

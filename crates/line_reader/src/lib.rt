@@ -1,5 +1,8 @@
 // The reader: each line of a file is read once, and each field of it once, as its end is found. It answers the first line that fails test 2 or 3;
 // where none does, the first lines that fail 5, 6 and 7, what the header and the trailer say, and the columns.
+
+#![tactic(auto)]
+
 ghost use Rattle.std.specs.Prelude.{◌≡◌, true, false, cond, ℕ, ◌≤◌, ◌<◌, eqb, length, set, replicate};
 ghost use Rattle.lists.specs.Written.{written};
 ghost use Rattle.calendar.specs.InsideFirstDays.{first_days};
@@ -19,7 +22,7 @@ use records::Record;
 
 // What is answered of a file's lines: the line at which the reader stopped, or their number; then, where it read them all, the first lines that fail
 // tests 5, 6 and 7, the numbers that fields 4, 5 and 6 of the first line and field 4 of the last say, and whether the last TH has Site Status Code E.
-#[derive(Drop)]
+#[derive(Clone, Copy)]
 pub struct LinesRead {
     pub stopped: usize,
     pub unfilled: usize,
@@ -33,7 +36,7 @@ pub struct LinesRead {
 }
 
 // A record's type, where its first three fields end, and whether they are filled as they must be.
-#[derive(Drop)]
+#[derive(Clone, Copy)]
 struct Head {
     record_type: u64,
     id_end: usize,

@@ -1,4 +1,7 @@
 // Definitions on lists that contracts cite, with their laws, and the search that many crates use.
+
+#![tactic(auto)]
+
 ghost use Rattle.std.specs.Prelude.{◌≡◌, false, ℕ, ◌+◌, ◌≤◌, ◌<◌, length, get_or, drop};
 ghost use Rattle.lists.specs.First.{first_where, is_byte};
 ghost use Rattle.lists.specs.Bytes.{same_bytes};

@@ -1,5 +1,8 @@
 // Readings: the field at the start of a line's bytes, read in one pass: where it ends, whether it fits its type, and what it says as one number.
 // A reading is certain: it fits where the field does, and where the field does not fit it does not.
+
+#![tactic(auto)]
+
 ghost use Rattle.std.specs.Prelude.{◌≡◌, ℕ, ◌+◌, ◌-◌, ◌*◌, ◌^◌, ◌<◌, ◌≤◌, true, false, cond, List, length, slice_index, slice_index_or};
 ghost use Rattle.readings.specs.InsideLeadingBytes.{Ends, DigitsRead, AllRead, TextRead};
 ghost use Rattle.readings.specs.InsideAmountReadings.{WholeRead, MagnitudeTold};
@@ -11,14 +14,14 @@ ghost use Rattle.readings.specs.InsideReadings.{FieldTold, is_narrow};
 use calendar::Day;
 
 // The bytes that were read, and the number that they write.
-#[derive(Drop)]
+#[derive(Clone, Copy)]
 pub struct Run {
     pub len: usize,
     pub value: u64,
 }
 
 // Whether a field fits its type, and then where it ends and what it says as one number. Where it doesn't fit, nothing is known.
-#[derive(Drop)]
+#[derive(Clone, Copy)]
 pub struct Reading {
     pub fits: bool,
     pub len: usize,

@@ -1,4 +1,7 @@
 // The lines of a file, and records: a line's type and the places of its fields.
+
+#![tactic(auto)]
+
 ghost use Rattle.std.specs.Prelude.{◌≡◌, ◌≤◌, ◌<◌, length, take, cond, ltb};
 ghost use Rattle.records.specs.InsidePlacedLines.{LineEnd, LinesFound, part, At};
 ghost use Rattle.records.specs.InsideLineEnds.{line_ends};
@@ -6,7 +9,7 @@ ghost use Rattle.tables.specs.Types.{type_named};
 ghost use Rattle.records.specs.Records.{field};
 ghost use Rattle.records.specs.InsidePlacedFields.{number_among, field_among, fields_at, FieldsPlaced, RecordFound};
 
-#[derive(Drop)]
+#[derive(Clone, Copy)]
 pub enum Lines {
     Count(usize),
     TooMany,
@@ -80,7 +83,7 @@ pub fn line_ends(file: &[u8]) -> usize
 }
 
 // A record's type is its place among FH, SH, TH, DU, DD, DM, CH, OC, FT, or 9. A line of more than 24 fields has type 9 and count 0.
-#[derive(Drop)]
+#[derive(Clone, Copy)]
 pub struct Record {
     pub record_type: u64,
     pub count: usize,
@@ -133,7 +136,7 @@ pub fn record_at(file: &[u8], start: usize, end: usize) -> Record
 }
 
 // Where a field stands: its start and its end.
-#[derive(Drop)]
+#[derive(Clone, Copy)]
 pub struct Place(pub usize, pub usize);
 
 // The place of field k, counted from 1, of a record whose fields stand at the first count of starts and ends; 0 to 0 where there is none.

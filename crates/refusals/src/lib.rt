@@ -1,5 +1,8 @@
 // What Check answers. The refusals that it chooses from, in document 01's order, are in specs/. The rejection code of a Table 5-1 test, from A5.24. And the
 // answers of a date and of a code in one word, as a host gets them: the refusal's number times 2 ^ 32, and in the lower 32 bits the value asked for.
+
+#![tactic(auto)]
+
 ghost use Rattle.std.specs.Prelude.{◌≡◌};
 ghost use Rattle.calendar.specs.Calendar.{day_of};
 ghost use Rattle.refusals.specs.Answers.{packed, day_answer, code_answer};
@@ -8,7 +11,7 @@ ghost use Rattle.refusals.specs.Refusals.{outcome};
 
 use calendar::Day;
 
-#[derive(Drop)]
+#[derive(Clone, Copy)]
 pub enum RejectionCode {
     Code(u64),
     NotATest,
@@ -56,7 +59,7 @@ pub fn code_word(test: u64) -> u64
 }
 
 // The refusal's number and line; 0 and 0 where nothing is refused.
-#[derive(Drop)]
+#[derive(Clone, Copy)]
 pub struct Outcome {
     pub number: u64,
     pub line: u64,

@@ -1,4 +1,7 @@
 // A lent run of entries, and the words that the ledger's functions work on: what is copied from the one to the other, and back.
+
+#![tactic(auto)]
+
 ghost use Rattle.std.specs.Prelude.{◌≡◌, true, false, ◌≤◌, length, take};
 ghost use Rattle.entries.specs.InsideWords.{RoomFor, entries_of};
 ghost use Rattle.soundness.specs.InsideRoom.{read_count, LedgerRoom};

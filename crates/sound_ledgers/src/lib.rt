@@ -1,4 +1,7 @@
 // Whether a ledger is sound, without comparing all pairs of its entries: each is read once, into columns, and the tests that compare entries are passes over these.
+
+#![tactic(auto)]
+
 ghost use Rattle.std.specs.Prelude.{◌≡◌, cond, true, false, ◌<◌, ◌+◌, ◌≤◌, ℕ, length, set, get_or};
 ghost use Rattle.apart.specs.InsideGathered.{day_number, Gathering};
 ghost use Rattle.soundness.specs.Sound.{is_live_period, is_sound};
@@ -36,7 +39,7 @@ pub fn gather(e: Entry, count: usize, firsts: &mut [u64], lasts: &mut [u64]) -> 
 }
 
 // What a pass over the entries answers: whether each fits by itself, and how many live periods it gathered.
-#[derive(Drop)]
+#[derive(Clone, Copy)]
 pub struct Copies {
     pub fit: bool,
     pub live: usize,

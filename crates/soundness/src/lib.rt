@@ -1,6 +1,9 @@
 // When a ledger is sound, in specs/: document 01's sentences. Here are those that look at the sizes, at one entry, and at a cancel and the entry that it
 // cancels, each a function of its own.
 // `sound_ledgers::is_sound` asks them all.
+
+#![tactic(auto)]
+
 ghost use Rattle.std.specs.Prelude.{◌≡◌, not, cond, ◌||◌, ◌&&◌, ◌<◌, ◌^◌, eqb, ltb, nat_abs, ◌+ℤ◌};
 ghost use Rattle.entries.specs.Entries.{entry_of, is_period};
 ghost use Rattle.entries.specs.InsideWords.{RoomFor, entries_of};

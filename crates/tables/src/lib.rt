@@ -1,5 +1,8 @@
 // Tables 4-2 to 4-10. The nine record types, counted from 0: FH, SH, TH, DU, DD, DM, CH, OC, FT. What may follow what, what hangs under what, and values picked by
 // type; then how many fields each has, which are marked Mandatory, and the type of each.
+
+#![tactic(auto)]
+
 ghost use Rattle.std.specs.Prelude.{◌≡◌, ◌++◌, cond, ◌&&◌, ◌≤◌, leb, ltb, length, drop};
 ghost use Rattle.tables.specs.Types.{type_named, follow_table, may_follow, parent_type};
 ghost use Rattle.tables.specs.Groups.{picked};

@@ -1,5 +1,8 @@
 // The used entries of a ledger by their keys, and by their sites: one pass puts them into chains, and a search reads the entries of one chain, each of them
 // tested itself.
+
+#![tactic(auto)]
+
 ghost use Rattle.std.specs.Prelude.{◌≡◌, ℕ, ◌+◌, get_or, ◌&&◌, eqb};
 ghost use Rattle.lists.specs.First.{first_where};
 ghost use Rattle.entries.specs.InsideWords.{RoomFor, entries_of};
@@ -68,7 +71,7 @@ pub fn first_overlap(
 }
 
 // What is looked for: a file entry with a sender and a Record ID, any entry with them, or one that a cancel with a Reference ID names.
-#[derive(Drop)]
+#[derive(Clone, Copy)]
 enum Search {
     File(u64, u64),
     Stored(u64, u64),

@@ -1,4 +1,7 @@
 // Bytes written into a lent run, from a place on: numbers, and bytes as they are. Each function leaves the rest of the run as it was.
+
+#![tactic(auto)]
+
 ghost use Rattle.std.specs.Prelude.{◌≡◌, ◌+◌, ◌%◌, ◌≤◌, length};
 ghost use Rattle.writing.specs.Decimals.{digits_in, digit_count, plain_digits};
 ghost use Rattle.writing.specs.InsideWriting.{written_at};

@@ -1,4 +1,7 @@
 // Days written as dates, YYYYMMDD.
+
+#![tactic(auto)]
+
 ghost use Rattle.std.specs.Prelude.{◌≡◌, ◌+◌, ◌≤◌, length};
 ghost use Rattle.calendar.specs.InsideFirstDays.{first_days};
 ghost use Rattle.writing.specs.InsideWriting.{written_at};

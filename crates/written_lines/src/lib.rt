@@ -1,4 +1,7 @@
 // Lines that are written into a lent run, part by part: each function puts a part and the byte that ends it, and returns the place after both.
+
+#![tactic(auto)]
+
 ghost use Rattle.std.specs.Prelude.{◌+◌, ◌<◌, length};
 ghost use Rattle.writing.specs.Decimals.{digits_in, plain_digits};
 ghost use Rattle.written_lines.specs.InsidePut.{Put};
