@@ -1,13 +1,12 @@
 -- The line that the desk program prints of Book's result. Document 01, "Operations".
 -- Assumes nothing.
-use Rattle.std.specs.Prelude.{ℕ, cond, List, [], ◌∷◌, eqb}
+use Rattle.std.specs.Prelude.{ℕ, cond, List, [], ◌∷◌, ◌++◌, eqb}
 use Rattle.lists.specs.Written.{written}
 use Rattle.refusals.specs.declared.RejectionCode.{RejectionCode}
 use Rattle.refusals.specs.declared.RejectionCode.TheVariants.{Code, NotATest}
 use Rattle.refusals.specs.Codes.{code_of}
 use Rattle.booking.specs.Booking.{Result}
 use Rattle.writing.specs.Decimals.{plain_digits}
-use Rattle.written_lines.specs.Lines.{line_of}
 
 -- "code (0 for house numbers)": 0 for every number that has no code
 abbrev pub code_or_zero : RejectionCode → ℕ
@@ -18,14 +17,18 @@ unfoldable pub code_number : ℕ → ℕ
 code_number number = code_or_zero (code_of number)
 
 -- words and numbers "parted by single spaces, byte 10 last"
+unfoldable pub parted : List ℕ → List (List ℕ) → List ℕ
+parted part [] = part ++ (10 ∷ [])
+parted part (next ∷ rest) = part ++ (32 ∷ parted next rest)
+
 -- "accepted", added, held
-abbrev pub accepted_line : ℕ → ℕ → List ℕ
-accepted_line added held = line_of 32 (written "accepted" ∷ plain_digits added ∷ plain_digits held ∷ [])
+unfoldable pub accepted_line : ℕ → ℕ → List ℕ
+accepted_line added held = parted (written "accepted") (plain_digits added ∷ plain_digits held ∷ [])
 
 -- "rejected", number, code, line
-abbrev pub rejected_line : ℕ → ℕ → ℕ → List ℕ
-rejected_line number code line = line_of 32 (written "rejected" ∷ plain_digits number ∷ plain_digits code ∷ plain_digits line ∷ [])
+unfoldable pub rejected_line : ℕ → ℕ → ℕ → List ℕ
+rejected_line number code line = parted (written "rejected") (plain_digits number ∷ plain_digits code ∷ plain_digits line ∷ [])
 
 -- number 0 is that of an accepted file
-unfoldable pub answer_line : Result → List ℕ
-answer_line r = cond (eqb r.number 0) (accepted_line r.added r.held) (rejected_line r.number (code_number r.number) r.line)
+unfoldable pub line_of : Result → List ℕ
+line_of r = cond (eqb r.number 0) (accepted_line r.added r.held) (rejected_line r.number (code_number r.number) r.line)

@@ -2,10 +2,11 @@
 
 #![tactic(auto)]
 
-ghost use Rattle.std.specs.Prelude.{◌≡◌, ◌≤◌, length};
+ghost use Rattle.std.specs.Prelude.{◌≡◌, [], ◌∷◌, ◌++◌, ◌+◌, ◌≤◌, ◌<◌, length};
 ghost use Rattle.booking.specs.Booking.{result_of};
+ghost use Rattle.writing.specs.Decimals.{plain_digits};
 ghost use Rattle.writing.specs.InsideWriting.{written_at};
-ghost use Rattle.desk_answer.specs.Line.{code_number, accepted_line, rejected_line, answer_line};
+ghost use Rattle.desk_answer.specs.Line.{code_number, accepted_line, rejected_line, line_of};
 ghost use Rattle.desk_answer.specs.Desk.{desk_result};
 
 use booking::Answer;
@@ -21,14 +22,24 @@ fn code_number(number: u64) -> u64
     }
 }
 
+// n and the byte after it; returns the place after both.
+fn write_number(out: &mut [u8], at: usize, n: u64, end: u8) -> usize
+    requires { at + length (plain_digits n) < length out.old }
+    ensures { (out.new ≡ written_at out.old at (plain_digits n ++ (end ∷ []))) × (result ≡ at + length (plain_digits n) + 1) }
+{
+    let to = writing::write_plain(out, at, n);
+    out[to] = end;
+    to + 1
+}
+
 // The line of a file that is accepted; returns its length.
 fn write_accepted(out: &mut [u8], added: u64, held: u64) -> usize
     requires { 72 ≤ length out.old }
     ensures { (out.new ≡ written_at out.old 0 (accepted_line added held)) × (result ≡ length (accepted_line added held)) }
 {
-    let past_word = written_lines::put_bytes(out, 0, b"accepted", b' ');
-    let past_added = written_lines::put_plain(out, past_word, added, b' ');
-    written_lines::put_plain(out, past_added, held, b'\n')
+    writing::write_bytes(out, 0, b"accepted ");
+    let to = write_number(out, 9, added, b' ');
+    write_number(out, to, held, b'\n')
 }
 
 // The line of a rejected file. The answer is its length.
@@ -36,17 +47,17 @@ fn write_rejected(out: &mut [u8], number: u64, code: u64, line: u64) -> usize
     requires { 72 ≤ length out.old }
     ensures { (out.new ≡ written_at out.old 0 (rejected_line number code line)) × (result ≡ length (rejected_line number code line)) }
 {
-    let past_word = written_lines::put_bytes(out, 0, b"rejected", b' ');
-    let past_number = written_lines::put_plain(out, past_word, number, b' ');
-    let past_code = written_lines::put_plain(out, past_number, code, b' ');
-    written_lines::put_plain(out, past_code, line, b'\n')
+    writing::write_bytes(out, 0, b"rejected ");
+    let past_number = write_number(out, 9, number, b' ');
+    let past_code = write_number(out, past_number, code, b' ');
+    write_number(out, past_code, line, b'\n')
 }
 
 // The line of Book's answer, at the start of `out`; returns its length. 72 bytes hold every line: a word of 8, three spaces, three numbers of at most
 // 20 digits, and byte 10.
 pub fn write_line(answer: Answer, out: &mut [u8]) -> usize
     requires { 72 ≤ length out.old }
-    ensures { (out.new ≡ written_at out.old 0 (answer_line (result_of answer))) × (result ≡ length (answer_line (result_of answer))) }
+    ensures { (out.new ≡ written_at out.old 0 (line_of (result_of answer))) × (result ≡ length (line_of (result_of answer))) }
 {
     match answer {
         Answer::Refused(number, line) => {
@@ -75,8 +86,8 @@ fn answer(input: &[u8]) -> Answer
 // Writes the line into `out`, and answers its length.
 pub fn write_answer(input: &[u8], out: &mut [u8]) -> usize
     requires { 72 ≤ length out.old }
-    ensures out_after { out.new ≡ written_at out.old 0 (answer_line (desk_result input.now)) }
-    ensures value { (result ≡ length (answer_line (desk_result input.now))) × (result ≤ 72) }
+    ensures out_after { out.new ≡ written_at out.old 0 (line_of (desk_result input.now)) }
+    ensures value { (result ≡ length (line_of (desk_result input.now))) × (result ≤ 72) }
 {
     write_line(answer(input), out)
 }

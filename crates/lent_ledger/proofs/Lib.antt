@@ -1,12 +1,2 @@
-pub mod BookInCalled
 pub mod BookLaws
-pub mod BookReplyCalled
-pub mod FindInCalled
-pub mod FindReplyCalled
-pub mod HeldInCalled
-pub mod HeldReplyCalled
 pub mod Laws
-pub mod PlacesToldCalled
-pub mod TotalsInCalled
-pub mod TotalsReplyCalled
-pub mod WrittenCalled

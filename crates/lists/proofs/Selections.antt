@@ -15,12 +15,14 @@ use Rattle.lists.specs.InsideSelections.{all, distinct}
 
 pub is_true : (b : Bool) → T b → b ≡ true
 is_true true t = refl
+is_true false t = elim t [ ]
 
 pub from_true : {b : Bool} → b ≡ true → T b
 from_true e = subst T (sym e) tt
 
 pub both : (a b : Bool) → T (a && b) → T a × T b
 both true b t = (tt, t)
+both false b t = elim t [ ]
 
 pub and_left : (a b : Bool) → (a && b) ≡ true → a ≡ true
 and_left true b e = refl
@@ -39,6 +41,7 @@ eq→eqb {m} {n} e = subst (λ (k : ℕ). T (eqb m k)) e (eqb_refl m)
 
 pub is_false : (b : Bool) → T (not b) → b ≡ false
 is_false false t = refl
+is_false true t = elim t [ ]
 
 pub not-false : (b : Bool) → not b ≡ false → b ≡ true
 not-false true e = refl

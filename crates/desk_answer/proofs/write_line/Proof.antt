@@ -13,7 +13,7 @@ returns c =
 returns-2 : tie.Need-returns-2
 returns-2 c =
     let given = c.before.before.before.before.before.before.before.answer.given in
-    rw (c.before.before.before.code_number_lem.ensures, rejected_is given.0.0 given.0.1.0 given.1 c.before.before.before.before.before.if1.false) at c.before.before.write-rejected.ensures
+    rw (c.before.before.before.code-number.ensures, rejected_is given.0.0 given.0.1.0 given.1 c.before.before.before.before.before.if1.false) at c.before.before.write-rejected.ensures
 
 returns-3 : tie.Need-returns-3
 returns-3 c =

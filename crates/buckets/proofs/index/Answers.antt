@@ -1,0 +1,15 @@
+-- `buckets::index` meets its contract. The loop's invariant: the first i places are in the tree, and their first places in the column.
+-- Assumes nothing.
+use Prim.Native.Nat.{◌-◌}
+use Rattle.buckets.proofs.Trees.{first_no_later, Indexing, indexing_none, indexing_more, indexing_end}
+use borrow.Author.Rules.{rules}
+use native.Mathlib.Omega.{arith}
+use Rattle.buckets.proofs.index.Goals as goal
+
+pub overflow_cast-leaders : goal.overflow_cast-leaders
+overflow_cast-leaders c = omega (arith, first_no_later c.args.values.now c.loop-i.i c.put.ensures.1)
+
+pub loop-i-preserved : goal.loop-i-preserved
+loop-i-preserved c =
+    let put = c.put in
+    indexing_more _ c.args.values.now _ _ c.loop-i-test.true _ put.auto.1.1.1.0 put.ensures c.requires.n_in_bounds.5 c.loop-i.invariant

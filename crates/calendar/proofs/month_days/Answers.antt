@@ -1,0 +1,35 @@
+-- `calendar::month_days` meets its contract: by the arms of its match.
+-- Assumes nothing.
+use Prim.Native.Nat.{◌%◌}
+use Rattle.calendar.specs.Calendar.{month_days}
+use mathlib.Core.Logic.{⊎_elim, inl, inr}
+use mathlib.Core.Path.{sym, ◌∙◌}
+use borrow.Author.Tests.{eq-eqb, ne_eqb}
+use borrow.Author.Rules.{rules}
+use Rattle.calendar.proofs.month_days.Goals as goal
+
+pub returns-then-leap : goal.returns-then-leap
+unfolding month_days
+returns-then-leap c = simp (eq-eqb _ _ c.in-1.keys1, sym c.leap.ensures ∙ c.if-leap.true)
+
+pub returns-else-leap : goal.returns-else-leap
+unfolding month_days
+returns-else-leap c = simp (eq-eqb _ _ c.in-1.keys1, sym c.leap.ensures ∙ c.if-leap.false)
+
+pub returns-in-3 : goal.returns-in-3
+unfolding month_days
+returns-in-3 c = ⊎_elim (λ e. rw e) (⊎_elim (λ e. rw e) (⊎_elim (λ e. rw e) (λ e. rw e))) c.in-3.keys2
+
+pub returns-in_default : goal.returns-in_default
+unfolding month_days
+returns-in_default c =
+    let m = c.args.month % 12 in
+    let no = c.in_default.rest.1 in
+    simp (
+      ne_eqb m 1 c.in_default.rest.0.1,
+      ne_eqb m 3 (λ e. no (inl e)),
+      ne_eqb m 5 (λ e. no (inr (inl e))),
+      ne_eqb m 8 (λ e. no (inr (inr (inl e)))),
+      ne_eqb m 10 (λ e. no (inr (inr (inr e)))),
+    )
+
