@@ -35,7 +35,7 @@ HEAD = """# What must be believed
 For the auditor. The prover checks that every function meets its contract. What it can't check is that a contract says what document 01 says: that is read, in the
 files below, each definition with its sentence. They are all that the contracts of the exported functions, the guarantee (`Guarantee`), the meaning of an accepted
 file (`Passing`, `Accepted`), of an acceptable booking (`Acceptable`) and of a sound ledger (`Sound`), and what is written again of a dispute that was read
-(`fieldsAgain`) cite, directly or through others; then what the desk program prints. The other {inside} files under specs/ are named Inside..: they hold statements between functions, which the prover ties together, and need
+(`fields_again`) cite, directly or through others; then what the desk program prints. The other {inside} files under specs/ are named Inside..: they hold statements between functions, which the prover ties together, and need
 not be read. No believed file cites one. tools/reading.py makes this list, and the gate checks it.
 
 Read from the top: each file rests on those above it. The first number counts the lines of definitions, the second those of the comments, which are their
@@ -55,19 +55,19 @@ def read(path):
 
 def cited(text):
     """The definitions' files that a text cites."""
-    return re.findall(r"use Rattle·([a-z_]+)(?:·specs)?\.specs\.([A-Z][A-Za-z]*)\b", text)
+    return re.findall(r"use Rattle\.(?!std\b)([a-z_]+)\.specs\.([A-Z][A-Za-z]*)\b", text)
 
 
 def cited_by_exports(text):
     """The definitions' files that the contracts of a crate's exported functions cite."""
-    exports = re.findall(r"#\[no_mangle\]\npub extern .*?\n\{\n", text, re.S)
-    words = set(re.findall(r"[\w·-]+", " ".join(exports)))
-    uses = re.findall(r"ghost (use Rattle·[^{]*)\{([^}]*)\}", text)
+    exports = re.findall(r"#\[unsafe\(no_mangle\)\]\npub extern .*?\n\{\n", text, re.S)
+    words = set(re.findall(r"\w+", " ".join(exports)))
+    uses = re.findall(r"ghost (use Rattle\.[^{]*)\{([^}]*)\}", text)
     return [key for module, names in uses if words & set(names.split(", ")) for key in cited(module)]
 
 
 def crates_in_order():
-    return re.findall(r"(?m)^([a-z_]+):", read(os.path.join(ROOT, "crates.txt")))
+    return re.findall(r"(?m)^([a-z_]+)(?: staticlib)?:", read(os.path.join(ROOT, "crates.txt")))
 
 
 def definitions():
@@ -159,7 +159,7 @@ def misnamed():
         inside = key[1].startswith("Inside")
         if inside == (key in found):
             yield f"{path}: {'believed, and named Inside' if inside else 'not believed, and not named Inside'}"
-        if re.search(r"use Rattle·[a-z_]+(?:·proofs)?\.proofs\.", read(path)):
+        if re.search(r"use Rattle\.(?!std\b)[a-z_]+\.proofs\.", read(path)):
             yield f"{path}: cites a proof"
         if not inside and any(name.startswith("Inside") for _, name in cited(read(path))):
             yield f"{path}: cites an inside file"

@@ -26,7 +26,7 @@ use Rattle.bill_files.specs.Accepted.{Bill, BillFile}
 use Rattle.bill_files.proofs.Passing.{tests_none}
 use Rattle.entries.specs.declared.Entry.{Entry}
 use Rattle.soundness.specs.Sound.{is_sound}
-use Rattle.booking.specs.Booking.{first_cancel, has_file, first_unnamed, first_unopposed, has_stored, ledger_refusals, Input, file_of, ledger_of, opening_refusals, book_refusals, book_refusal, is_booked}
+use Rattle.booking.specs.Booking.{first_cancel, cancel_named, has_file, first_unnamed, first_unopposed, has_stored, ledger_refusals, Input, file_of, ledger_of, opening_refusals, book_refusals, book_refusal, is_booked}
 
 -- ════ the order
 
@@ -45,7 +45,7 @@ search_on false m n = (λ h. (refl, omega arith), λ h. ap suc h.1)
 
 pub first_cancel_most : (fails : List Entry → Bill → Bool) (l : List Entry) (bs : List Bill) → first_cancel fails l bs ≤ length bs
 first_cancel_most fails l [] = omega arith
-first_cancel_most fails l (b ∷ bs) = go (b.cancel && fails l b) (first_cancel_most fails _ bs)
+first_cancel_most fails l (b ∷ bs) = go (b.cancel && fails l b) (first_cancel_most fails (cond b.cancel (cancel_named b l) l) bs)
   where
     go : {n : ℕ} (t : Bool) → n ≤ length bs → cond t 0 (suc n) ≤ suc (length bs)
     go true h = omega arith
