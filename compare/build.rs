@@ -1,4 +1,4 @@
-//! Links the proved functions, which `rt staticlib` writes.
+//! Links the proved functions, which `tools/archives.sh` writes.
 
 use std::path::Path;
 

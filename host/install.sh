@@ -10,7 +10,7 @@ mkdir -p "$1"
 prefix=$(cd "$1" && pwd)
 cd "$(dirname "$0")/.."
 if [ ! -f target/staticlib/libintake.a ]; then
-  rt staticlib intake
+  tools/archives.sh intake
 fi
 install -d "$prefix/lib/pkgconfig" "$prefix/include"
 install -m 644 target/staticlib/libintake.a "$prefix/lib/"

@@ -1,5 +1,5 @@
 #!/usr/bin/env bash
-# Tests of the C side, once the archive and the host programs are built (rt staticlib intake && host/build.sh).
+# Tests of the C side, once the archive and the host programs are built (tools/archives.sh intake && host/build.sh).
 set -euo pipefail
 cd "$(dirname "$0")/.."
 

@@ -1,6 +1,6 @@
 #!/usr/bin/env python3
-"""Times Check by two builds of the library beside each other: `tools/builds.py BEFORE AFTER`, two trees of this repository in which `rt staticlib intake`
-was run. In AFTER, whose benchmark is used, `rt staticlib comparison` was run too. Each run has both builds in another layout of their code, and is one process, in
+"""Times Check by two builds of the library beside each other: `tools/builds.py BEFORE AFTER`, two trees of this repository in which `tools/archives.sh intake`
+was run. In AFTER, whose benchmark is used, `tools/archives.sh comparison` was run too. Each run has both builds in another layout of their code, and is one process, in
 which each calls Check 11 times on one file of each kind, by turns. Prints the medians of every run, and of each case the median ratio of all runs."""
 
 import os

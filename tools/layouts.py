@@ -1,6 +1,6 @@
 #!/usr/bin/env python3
 """Times the benchmark in six layouts of its code, three runs each, and prints of each case the median ratio of every layout and the median of these. Words after the
-command are passed on: `tools/layouts.py ledger` times Book, Totals and Find alone. The static libraries must have been built (`rt staticlib comparison`, `rt staticlib intake`)."""
+command are passed on: `tools/layouts.py ledger` times Book, Totals and Find alone. The static libraries must have been built (`tools/archives.sh`)."""
 
 import os
 import re

@@ -4,8 +4,7 @@
 
 #![tactic(auto)]
 
-ghost use Rattle.std.specs.Prelude.{◌≡◌, ◌≤◌};
-ghost use Rattle.io.specs.Counts.{IsPrefixLen};
+ghost use Rattle.std.specs.Prelude.{◌≡◌, ◌≤◌, length, IfOk};
 ghost use Rattle.entries.specs.InsideWords.{RoomFor};
 ghost use Rattle.booking.specs.Booking.{result_of};
 
@@ -14,72 +13,74 @@ use booking::Answer;
 use calendar::Day;
 use digits::Number;
 use ledger::{Found, Totals};
-use libc::STDOUT_FILENO;
 use refusals::RejectionCode;
+use std::io::Read;
+use std::rt::Files;
+use std::{fs, io};
 
 const RETAILER: u64 = 999999999;
 
 const SITE: u64 = 20000000001;
 
-fn print(s: &[u8]) {
-    io::write_all(STDOUT_FILENO, s);
+fn print(rt: &impl Print, s: &[u8]) -> io::Result<()> {
+    rt.write_all(s)
 }
 
-fn print_number(label: &[u8], n: u64) {
-    print(label);
-    io::print_decimal(STDOUT_FILENO, n);
+fn print_number(rt: &impl Print, label: &[u8], n: u64) -> io::Result<()> {
+    print(rt, label)?;
+    rt.print(n)
 }
 
-fn print_units(units: i64) {
+fn print_units(rt: &impl Print, units: i64) -> io::Result<()> {
     if units < 0 {
-        print(b"-");
+        print(rt, b"-")?;
     }
-    io::print_decimal(STDOUT_FILENO, amounts::size(units));
+    rt.print(amounts::size(units))
 }
 
-fn print_charge(label: &[u8], charge: Charge) {
-    print(label);
-    print_units(charge.0);
+fn print_charge(rt: &impl Print, label: &[u8], charge: Charge) -> io::Result<()> {
+    print(rt, label)?;
+    print_units(rt, charge.0)
 }
 
 // A file's name; then how many entries were added and how many of them are held, or the number and the line of a refusal.
-fn print_answer(name: &[u8], answer: Answer) {
-    print(name);
+fn print_answer(rt: &impl Print, name: &[u8], answer: Answer) -> io::Result<()> {
+    print(rt, name)?;
     match answer {
         Answer::Refused(number, line) => {
-            print_number(b": rejected ", number as u64);
-            print_number(b" ", line as u64);
+            print_number(rt, b": rejected ", number as u64)?;
+            print_number(rt, b" ", line as u64)?;
         }
         Answer::Accepted(added, held) => {
-            print_number(b": accepted ", added as u64);
-            print_number(b" ", held as u64);
+            print_number(rt, b": accepted ", added as u64)?;
+            print_number(rt, b" ", held as u64)?;
         }
     }
-    print(b"\n");
+    print(rt, b"\n")
 }
 
-fn print_sums(accepted: Charge, totals: Totals) {
-    print_charge(b"accepted ", accepted);
+fn print_sums(rt: &impl Print, accepted: Charge, totals: Totals) -> io::Result<()> {
+    print_charge(rt, b"accepted ", accepted)?;
     match totals {
-        Totals::Unsound => print(b": not sound"),
+        Totals::Unsound => print(rt, b": not sound")?,
         Totals::Of(live, held) => {
-            print_charge(b": live ", live.charge);
-            print_charge(b", held ", held.charge);
+            print_charge(rt, b": live ", live.charge)?;
+            print_charge(rt, b", held ", held.charge)?;
         }
     }
-    print(b"\n");
+    print(rt, b"\n")
 }
 
 // A date, and the place of the live period that has it.
-fn print_found(date: &[u8], found: Found) {
-    print(date);
+fn print_found(rt: &impl Print, date: &[u8], found: Found) -> io::Result<()> {
+    print(rt, date)?;
     match found {
-        Found::Unsound => print(b": not sound"),
-        Found::OutOfRange => print(b": out of range"),
-        Found::At(place) => print_number(b": found at ", place as u64),
-        Found::None => print(b": found none"),
+        Found::Unsound => print(rt, b": not sound")?,
+        Found::OutOfRange => print(rt, b": out of range")?,
+        Found::At(place) => print_number(rt, b": found at ", place as u64)?,
+        Found::None => print(rt, b": found none")?,
     }
-    print(b"\n");
+    print(rt, b"\n")
 }
 
 // The day number of a date; of any other text one that is out of range.
@@ -100,36 +101,47 @@ fn added(answer: Answer) -> usize
     }
 }
 
-// Reads a file into the bytes and returns how many were read: 0 where it can't be opened.
-fn read_named(name: &[u8], bytes: &mut [u8]) -> usize
-    ensures { IsPrefixLen result bytes.new }
+// Reads until the bytes are full or the input ends, and returns how many were read.
+fn read_full(input: &mut impl Read, bytes: &mut [u8]) -> io::Result<usize>
+    ensures { IfOk result (λ n. n ≤ length bytes.new) }
 {
-    let file = os::open_read(name);
-    if file < 0 {
-        os::fail(name);
-        return 0;
+    let mut done = 0;
+    while done < bytes.len() {
+        let n = input.read(&mut bytes[done..])?;
+        if n == 0 {
+            break;
+        }
+        done += n;
     }
-    let n = io::read_full(file, bytes);
-    libc::close(file);
-    n
+    Ok(done)
+}
+
+// Reads a file into the bytes and returns how many were read.
+fn read_named(rt: &impl Files, name: &str, bytes: &mut [u8]) -> io::Result<usize>
+    ensures { IfOk result (λ n. n ≤ length bytes.new) }
+{
+    let mut file = fs::open(rt, name)?;
+    read_full(&mut file, bytes)
 }
 
 // Books a file, prints the answer and returns the used count afterwards.
 fn book_named(
-    name: &[u8],
+    rt: &(impl Files + Print),
+    name: &str,
     words: &mut [u64],
     amounts: &mut [i64],
     places: usize,
     used: usize,
-) -> usize
+) -> io::Result<usize>
     requires { RoomFor places words.old amounts.old × (used ≤ places) }
-    ensures { RoomFor places words.new amounts.new × (result ≤ places) }
+    ensures room { RoomFor places words.new amounts.new }
+    ensures within { IfOk result (λ n. n ≤ places) }
 {
-    let mut bytes = io::large_buffer();
-    let n = read_named(name, &mut bytes);
+    let mut bytes = [0u8; 65536];
+    let n = read_named(rt, name, &mut bytes)?;
     let answer = book::book(RETAILER, b"0040", &bytes[..n], words, amounts, places, used);
-    print_answer(name, answer);
-    used + added(answer)
+    print_answer(rt, name.as_bytes(), answer)?;
+    Ok(used + added(answer))
 }
 
 // The sum of the accepted files' trailer totals: the charges of the file entries.
@@ -147,128 +159,130 @@ fn accepted_charge(words: &[u64], amounts: &[i64], used: usize) -> Charge
 }
 
 // The sums, and what Find answers on 31 January and on 1 February.
-fn print_ledger(words: &[u64], amounts: &[i64], places: usize, used: usize)
+fn print_ledger(
+    rt: &impl Print,
+    words: &[u64],
+    amounts: &[i64],
+    places: usize,
+    used: usize,
+) -> io::Result<()>
     requires { RoomFor used words.now amounts.now }
 {
     let accepted = accepted_charge(words, amounts, used);
     let totals = ledger::totals_of(words, amounts, places, used);
-    print_sums(accepted, totals);
+    print_sums(rt, accepted, totals)?;
     let january = ledger::find(words, amounts, places, used, SITE, day(b"20240131"));
-    print_found(b"20240131", january);
+    print_found(rt, b"20240131", january)?;
     let february = ledger::find(words, amounts, places, used, SITE, day(b"20240201"));
-    print_found(b"20240201", february);
+    print_found(rt, b"20240201", february)
 }
 
 // Into an empty ledger of so many places: A's file, and another.
-fn book_two(places: usize, second: &[u8])
+fn book_two(rt: &(impl Files + Print), places: usize, second: &str) -> io::Result<()>
     requires { places ≤ 512 }
 {
     let mut words = [0u64; 4608];
     let mut amounts = [0i64; 1024];
-    print_number(b"places ", places as u64);
-    print(b"\n");
-    let one = book_named(b"a.csv", &mut words, &mut amounts, places, 0);
-    let two = book_named(second, &mut words, &mut amounts, places, one);
-    print_ledger(&words, &amounts, places, two);
+    print_number(rt, b"places ", places as u64)?;
+    print(rt, b"\n")?;
+    let one = book_named(rt, "a.csv", &mut words, &mut amounts, places, 0)?;
+    let two = book_named(rt, second, &mut words, &mut amounts, places, one)?;
+    print_ledger(rt, &words, &amounts, places, two)
 }
 
 // Into an empty ledger of 512 places: A's file, B's, and another.
-fn book_three(third: &[u8]) {
+fn book_three(rt: &(impl Files + Print), third: &str) -> io::Result<()> {
     let mut words = [0u64; 4608];
     let mut amounts = [0i64; 1024];
-    print(b"places 512\n");
-    let one = book_named(b"a.csv", &mut words, &mut amounts, 512, 0);
-    let two = book_named(b"b.csv", &mut words, &mut amounts, 512, one);
-    let three = book_named(third, &mut words, &mut amounts, 512, two);
-    print_ledger(&words, &amounts, 512, three);
+    print(rt, b"places 512\n")?;
+    let one = book_named(rt, "a.csv", &mut words, &mut amounts, 512, 0)?;
+    let two = book_named(rt, "b.csv", &mut words, &mut amounts, 512, one)?;
+    let three = book_named(rt, third, &mut words, &mut amounts, 512, two)?;
+    print_ledger(rt, &words, &amounts, 512, three)
 }
 
-fn show_ledgers() {
+fn show_ledgers(rt: &(impl Files + Print)) -> io::Result<()> {
     // "A books January, 100.00. B cancels it and rebills 90.00: accepted 90.00, live 90.00."
-    book_two(512, b"b.csv");
+    book_two(rt, 512, "b.csv")?;
     // "A cancel of -99.99 instead gets 40."
-    book_two(512, b"cancel-of-another-amount.csv");
+    book_two(rt, 512, "cancel-of-another-amount.csv")?;
     // "B's cancel sent again under new IDs gets 39."
-    book_three(b"cancel-sent-again.csv");
+    book_three(rt, "cancel-sent-again.csv")?;
     // "C brings 31 January to 27 February, 50.00: held; accepted 140.00 is 90.00 live and 50.00 held."
-    book_three(b"c.csv");
+    book_three(rt, "c.csv")?;
     // "With one entry left, a file of FH and one OC gets 101; with two it is booked."
-    book_two(3, b"one-time-charge.csv");
-    book_two(4, b"one-time-charge.csv");
+    book_two(rt, 3, "one-time-charge.csv")?;
+    book_two(rt, 4, "one-time-charge.csv")?;
     // B's file with the rebill before the cancel.
-    book_two(512, b"rebill-before-cancel.csv");
+    book_two(rt, 512, "rebill-before-cancel.csv")
 }
 
-fn print_id(s: &[u8]) {
-    print(b"  id ");
+fn print_id(rt: &impl Print, s: &[u8]) -> io::Result<()> {
+    print(rt, b"  id ")?;
     match digits::digits(s) {
-        Number::Value(n) => {
-            io::print_decimal(STDOUT_FILENO, n);
-        }
-        Number::Other => print(b"none"),
+        Number::Value(n) => rt.print(n),
+        Number::Other => print(rt, b"none"),
     }
 }
 
-fn print_amount(label: &[u8], amount: Amount) {
-    print(label);
+fn print_amount(rt: &impl Print, label: &[u8], amount: Amount) -> io::Result<()> {
+    print(rt, label)?;
     match amount {
-        Amount::Missing => print(b"missing"),
-        Amount::Value(units) => print_units(units),
-        Amount::Misses => print(b"misses"),
+        Amount::Missing => print(rt, b"missing"),
+        Amount::Value(units) => print_units(rt, units),
+        Amount::Misses => print(rt, b"misses"),
     }
 }
 
-fn print_day(s: &[u8]) {
-    print(b"  day ");
+fn print_day(rt: &impl Print, s: &[u8]) -> io::Result<()> {
+    print(rt, b"  day ")?;
     match calendar::day_of(s) {
-        Day::At(day) => {
-            io::print_decimal(STDOUT_FILENO, day);
-        }
-        Day::NotADate => print(b"none"),
+        Day::At(day) => rt.print(day),
+        Day::NotADate => print(rt, b"none"),
     }
 }
 
-fn show(label: &[u8], s: &[u8]) {
-    print(label);
-    print_id(s);
-    print_amount(b"  charge ", Charge::of(s));
-    print_amount(b"  usage ", Usage::of(s, 14));
-    print_day(s);
-    print(b"\n");
+fn show(rt: &impl Print, label: &[u8], s: &[u8]) -> io::Result<()> {
+    print(rt, label)?;
+    print_id(rt, s)?;
+    print_amount(rt, b"  charge ", Charge::of(s))?;
+    print_amount(rt, b"  usage ", Usage::of(s, 14))?;
+    print_day(rt, s)?;
+    print(rt, b"\n")
 }
 
-fn show_digits() {
-    show(b"empty", b"");
-    show(b"12345678901234567890", b"12345678901234567890");
-    show(b"1234567890123456", b"1234567890123456");
-    show(b"123456789012345", b"123456789012345");
-    show(b"letters", b"twelve");
+fn show_digits(rt: &impl Print) -> io::Result<()> {
+    show(rt, b"empty", b"")?;
+    show(rt, b"12345678901234567890", b"12345678901234567890")?;
+    show(rt, b"1234567890123456", b"1234567890123456")?;
+    show(rt, b"123456789012345", b"123456789012345")?;
+    show(rt, b"letters", b"twelve")
 }
 
-fn show_signs() {
-    show(b"-", b"-");
-    show(b"12.", b"12.");
-    show(b".5", b".5");
-    show(b"12.5", b"12.5");
-    show(b"-12.5", b"-12.5");
-    show(b"-0", b"-0");
-    show(b"0", b"0");
-    show(b"a space", b" ");
+fn show_signs(rt: &impl Print) -> io::Result<()> {
+    show(rt, b"-", b"-")?;
+    show(rt, b"12.", b"12.")?;
+    show(rt, b".5", b".5")?;
+    show(rt, b"12.5", b"12.5")?;
+    show(rt, b"-12.5", b"-12.5")?;
+    show(rt, b"-0", b"-0")?;
+    show(rt, b"0", b"0")?;
+    show(rt, b"a space", b" ")
 }
 
-fn show_widths() {
-    show(b"0.005", b"0.005");
-    show(b"0012.50", b"0012.50");
-    show(b"999999999.99", b"999999999.99");
-    show(b"1000000000", b"1000000000");
-    show(b"byte 255", b"\xff");
+fn show_widths(rt: &impl Print) -> io::Result<()> {
+    show(rt, b"0.005", b"0.005")?;
+    show(rt, b"0012.50", b"0012.50")?;
+    show(rt, b"999999999.99", b"999999999.99")?;
+    show(rt, b"1000000000", b"1000000000")?;
+    show(rt, b"byte 255", b"\xff")
 }
 
-fn show_dates() {
-    show(b"20000229", b"20000229");
-    show(b"20010229", b"20010229");
-    show(b"20991231", b"20991231");
-    show(b"21000101", b"21000101");
+fn show_dates(rt: &impl Print) -> io::Result<()> {
+    show(rt, b"20000229", b"20000229")?;
+    show(rt, b"20010229", b"20010229")?;
+    show(rt, b"20991231", b"20991231")?;
+    show(rt, b"21000101", b"21000101")
 }
 
 // The codes of A5.24, in its order.
@@ -286,51 +300,54 @@ fn answer(number: u64) -> u64 {
     }
 }
 
-fn print_after_space(number: u64) {
-    io::write_all(STDOUT_FILENO, b" ");
-    io::print_decimal(STDOUT_FILENO, number);
+fn print_after_space(rt: &impl Print, number: u64) -> io::Result<()> {
+    print(rt, b" ")?;
+    rt.print(number)
 }
 
-fn end_line() {
-    io::write_all(STDOUT_FILENO, b"\n");
+fn end_line(rt: &impl Print) -> io::Result<()> {
+    print(rt, b"\n")
 }
 
-fn print_code(code: u64) {
-    io::print_decimal(STDOUT_FILENO, code);
+fn print_code(rt: &impl Print, code: u64) -> io::Result<()> {
+    rt.print(code)?;
     for number in 0..=120 {
         if answer(number) == code {
-            print_after_space(number);
+            print_after_space(rt, number)?;
         }
     }
-    end_line();
+    end_line(rt)
 }
 
-fn print_codes() {
+fn print_codes(rt: &impl Print) -> io::Result<()> {
     for place in 0..43 {
-        print_code(CODES[place]);
+        print_code(rt, CODES[place])?;
     }
+    Ok(())
 }
 
-fn print_if_refused(number: u64) {
+fn print_if_refused(rt: &impl Print, number: u64) -> io::Result<()> {
     if answer(number) == 107 {
-        io::print_decimal(STDOUT_FILENO, 107);
-        print_after_space(number);
-        end_line();
+        rt.print(107u64)?;
+        print_after_space(rt, number)?;
+        end_line(rt)?;
     }
+    Ok(())
 }
 
-fn print_refused() {
+fn print_refused(rt: &impl Print) -> io::Result<()> {
     for number in 0..=120 {
-        print_if_refused(number);
+        print_if_refused(rt, number)?;
     }
+    Ok(())
 }
 
-fn main() {
-    show_ledgers();
-    show_digits();
-    show_signs();
-    show_widths();
-    show_dates();
-    print_codes();
-    print_refused();
+fn main(rt: HostRuntime) -> io::Result<()> {
+    show_ledgers(&rt)?;
+    show_digits(&rt)?;
+    show_signs(&rt)?;
+    show_widths(&rt)?;
+    show_dates(&rt)?;
+    print_codes(&rt)?;
+    print_refused(&rt)
 }
