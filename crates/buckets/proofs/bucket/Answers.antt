@@ -11,4 +11,3 @@ use Rattle.buckets.proofs.bucket.Goals as goal
 pub returns : goal.returns
 unfolding bucket_of
 returns c = (refl, bucket_below ((c.args.value % 4294967296 + c.args.value / 4294967296) * 2135587861 / 2 % 4294967296) c.args.size (omega arith) c.requires.0)
-

@@ -21,4 +21,3 @@ returns c =
     let p = c.loop-i in
     let a = c.args in
     let end : p.i ≡ a.n = omega (arith, c.loop-i-test.false, p.invariant.grown.within) in record { value = sym (unrepeated_end _ _ _ _ (omega (arith, c.loop-i-test.false)) p.invariant); indexed = λ _. subst (λ (k : ℕ). Indexed a.size a.values.now k p.tree) end p.invariant.grown.indexed }
-

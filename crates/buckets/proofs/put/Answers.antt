@@ -8,4 +8,3 @@ use Rattle.buckets.proofs.put.Goals as goal
 
 pub returns : goal.returns
 returns c = let found = c.search-spot in (put_place _ _ _ _ c.requires.indexed found.result found.ensures c.if-content-ne0.false (omega (arith, found.ensures.below)), sym (found.ensures.none c.if-content-ne0.false))
-

@@ -18,4 +18,3 @@ loop-content-preserved c = walk_more _ _ _ _ c.requires.indexed _ c.loop-content
 
 pub returns : goal.returns
 returns c = walk_end _ _ _ _ c.requires.indexed _ c.loop-content.invariant c.loop-content-test.false _ refl refl
-

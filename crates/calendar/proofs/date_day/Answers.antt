@@ -26,4 +26,3 @@ returns-then-month_days-day c = sym (date_is_not _ _ _ (λ date. omega arith))
 
 pub returns : goal.returns
 returns c = rw c.first_day.ensures.0 (sym (date_is _ _ _ (omega arith)))
-

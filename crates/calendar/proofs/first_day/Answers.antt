@@ -18,4 +18,3 @@ returns c =
     let k = c.args.month in
     let same : get_or c.args.table.now k 0 ≡ first_day k = ap (λ (l : List ℕ). get_or l k 0) c.requires.0 ∙ rule k c.requires.1 in
     (same, subst (λ (d : ℕ). d ≤ 36494) (sym same) (bound k c.requires.1))
-

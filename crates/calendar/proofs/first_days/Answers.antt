@@ -8,4 +8,3 @@ use Rattle.calendar.proofs.first_days.Goals as goal
 pub returns : goal.returns
 unfolding first_days days_from month_days
 returns c = refl
-

@@ -32,4 +32,3 @@ returns-in_default c =
       ne_eqb m 8 (λ e. no (inr (inr (inl e)))),
       ne_eqb m 10 (λ e. no (inr (inr (inr e)))),
     )
-

@@ -24,16 +24,15 @@ pub returns-in_default-digits : goal.returns-in_default-digits
 unfolding date_time_of
 returns-in_default-digits c =
     let time : digits_of (drop 8 c.args.s.now) ≡ c.digits.result =
-        let s = c.args.s.now in
-        rw (← take_all (length s - 8) (drop 8 s) (rw length-drop (le_refl _))) (sym c.digits.ensures) in
+    let s = c.args.s.now in
+    rw (← take_all (length s - 8) (drop 8 s) (rw length-drop (le_refl _))) (sym c.digits.ensures) in
     simp (eq-eqb _ _ c.if-s-ne14.false, ← c.read_day.ensures, c.day-1.given.1, time, c.enum_told-in_default-digits-1.given.1)
 
 pub returns : goal.returns
 unfolding date_time_of
 returns c =
     let time : digits_of (drop 8 c.args.s.now) ≡ c.digits.result =
-        let s = c.args.s.now in
-        rw (← take_all (length s - 8) (drop 8 s) (rw length-drop (le_refl _))) (sym c.digits.ensures) in
+    let s = c.args.s.now in
+    rw (← take_all (length s - 8) (drop 8 s) (rw length-drop (le_refl _))) (sym c.digits.ensures) in
     simp (eq-eqb _ _ c.if-s-ne14.false, ← c.read_day.ensures, c.day-1.given.1, time, c.n-1.given.1)
     c.at_time.ensures
-

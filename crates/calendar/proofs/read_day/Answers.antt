@@ -18,4 +18,3 @@ returns-in-Value c =
 pub returns-in-Other : goal.returns-in-Other
 unfolding day_of
 returns-in-Other c = simp (eq-eqb _ _ c.if-s-ne8.false, sym c.digits.ensures) (cc)
-

@@ -8,4 +8,3 @@ use Rattle.columns.proofs.column_fields.Goals as goal
 pub returns : goal.returns
 unfolding tabulate field_of
 returns c = refl
-

@@ -24,4 +24,3 @@ loop-i-preserved c =
 pub returns : goal.returns
 returns c =
     sym (c.loop-i.invariant.1 ∙ digits_end c.args.s.now c.loop-i.i (omega arith))
-

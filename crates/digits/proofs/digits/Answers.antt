@@ -33,18 +33,16 @@ overflow_add-v c =
     omega (arith, ten_room c.loop-i.i c.loop-i.invariant.3 (omega arith))
 
 pub loop-i-preserved : goal.loop-i-preserved
-loop-i-preserved c =
-    (
-      omega arith,
-      omega arith,
-      omega arith,
-      ten_more c.loop-i.i c.loop-i.invariant.3 (omega arith),
-      c.loop-i.invariant.4 ∙ digits_step _ c.loop-i.i (omega arith) (omega arith) (omega arith),
-      c.loop-i.invariant.5 ∙ rw c.wide.ensures (followed_step _ c.loop-i.i (omega arith) c.loop-i.v),
-    )
+loop-i-preserved c = (
+  omega arith,
+  omega arith,
+  omega arith,
+  ten_more c.loop-i.i c.loop-i.invariant.3 (omega arith),
+  c.loop-i.invariant.4 ∙ digits_step _ c.loop-i.i (omega arith) (omega arith) (omega arith),
+  c.loop-i.invariant.5 ∙ rw c.wide.ensures (followed_step _ c.loop-i.i (omega arith) c.loop-i.v),
+)
 
 pub returns : goal.returns
 returns c =
     let s = c.args.s.now in
     sym (digits_are s (omega arith) (omega arith) (c.loop-i.invariant.4 ∙ digits_end s c.loop-i.i (omega arith)) ∙ ap Value (c.loop-i.invariant.5 ∙ followed_end s c.loop-i.i (omega arith) c.loop-i.v))
-

@@ -12,4 +12,3 @@ returns-then-s-n c = simp (ne_eqb _ _ c.if-s-n.true)
 pub returns : goal.returns
 unfolding fixed_digits_of
 returns c = simp (eq-eqb _ _ c.if-s-n.false, ← c.digits.ensures)
-

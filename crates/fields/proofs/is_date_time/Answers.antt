@@ -12,4 +12,3 @@ returns-then-s-eq0 c = simp (eq-eqb _ _ c.if-s-eq0.true)
 pub returns : goal.returns
 unfolding fits_type
 returns c = simp (ne_eqb _ _ c.if-s-eq0.false, ← c.read_date_time.ensures, ← c.is_moment.ensures)
-

@@ -12,4 +12,3 @@ first_repeated-requires c = tree_asks c.args.ids.now 1024 3072 (lit< tt) (lit≤
 
 pub returns : goal.returns
 returns c = c.first_repeated.ensures.value ∙ tree_first c.args.ids.now
-

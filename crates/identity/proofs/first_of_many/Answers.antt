@@ -12,4 +12,3 @@ first_repeated-requires c = tree_asks c.args.ids.now 8192 16384 (lit< tt) (litâ‰
 
 pub returns : goal.returns
 returns c = c.first_repeated.ensures.value âˆ™ tree_first c.args.ids.now
-

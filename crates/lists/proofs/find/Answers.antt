@@ -15,13 +15,11 @@ returns-then-s-i c =
     sym (passed_here (is_byte c.args.b) c.args.s.now 0 c.loop-i.i (omega arith) c.loop-i.invariant.1 (eq-eqb _ _ c.if-s-i.true))
 
 pub loop-i-preserved : goal.loop-i-preserved
-loop-i-preserved c =
-    (
-      omega arith,
-      passed_more (is_byte c.args.b) c.args.s.now 0 c.loop-i.i (omega arith) c.loop-i.invariant.1 (ne_eqb _ _ c.if-s-i.false),
-    )
+loop-i-preserved c = (
+  omega arith,
+  passed_more (is_byte c.args.b) c.args.s.now 0 c.loop-i.i (omega arith) c.loop-i.invariant.1 (ne_eqb _ _ c.if-s-i.false),
+)
 
 pub returns : goal.returns
 returns c =
     sym (passed_end (is_byte c.args.b) c.args.s.now c.loop-i.i (omega arith) c.loop-i.invariant.1)
-

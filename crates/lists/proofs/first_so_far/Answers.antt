@@ -15,4 +15,3 @@ returns-then-holds c = simp (eq-eqb _ _ c.if-first-n.false, c.if-holds.true)
 pub returns : goal.returns
 unfolding first_after
 returns c = simp (eq-eqb _ _ c.if-first-n.false, c.if-holds.false)
-

@@ -46,4 +46,3 @@ returns c =
       eq-eqb (length s) (length t) c.if-s-t.false,
       found_none (differs_at s t) (length s) c.loop-i.i (omega arith) (searched_end (differs_at s t) (length s) c.loop-i.i (omega arith) c.loop-i.invariant.1),
     )
-

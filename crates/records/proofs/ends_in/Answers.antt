@@ -21,4 +21,3 @@ loop-i-preserved c =
 
 pub returns : goal.returns
 returns c = omega (arith, ends_none c.args.s.now c.loop-i.i c.loop-i-test.false)
-

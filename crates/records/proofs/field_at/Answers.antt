@@ -7,4 +7,3 @@ use Rattle.records.proofs.field_at.Goals as goal
 pub returns : goal.returns
 returns c =
     rw (c.place_among.ensures.0, c.place_among.ensures.1, ← among_is) (place_among c.record_at-r.ensures.placed c.args.k)
-

@@ -17,4 +17,3 @@ returns-then-count-k c =
 pub returns : goal.returns
 returns c =
     (sym (number_there c.args.count c.args.starts.now c.args.k c.if-k-eq0.false c.if-count-k.false), sym (number_there c.args.count c.args.ends.now c.args.k c.if-k-eq0.false c.if-count-k.false))
-

@@ -21,34 +21,34 @@ use Rattle.records.proofs.record_at.Goals as goal
 pub overflow_add-e : goal.overflow_add-e
 overflow_add-e c =
     let near : c.loop-n.a + c.find.result ≤ c.args.end =
-        let l = part c.args.file.now c.loop-n.a c.args.end in
-        omega (arith, c.find.ensures, first_le (is_byte 44) l, part_length c.args.file.now c.loop-n.a c.args.end (omega arith)) in
+    let l = part c.args.file.now c.loop-n.a c.args.end in
+    omega (arith, c.find.ensures, first_le (is_byte 44) l, part_length c.args.file.now c.loop-n.a c.args.end (omega arith)) in
     omega (arith, near)
 
 pub third-record_type-requires : goal.third-record_type-requires
 third-record_type-requires c =
     let near : c.loop-n.a + c.find.result ≤ c.args.end =
-        let l = part c.args.file.now c.loop-n.a c.args.end in
-        omega (arith, c.find.ensures, first_le (is_byte 44) l, part_length c.args.file.now c.loop-n.a c.args.end (omega arith)) in
+    let l = part c.args.file.now c.loop-n.a c.args.end in
+    omega (arith, c.find.ensures, first_le (is_byte 44) l, part_length c.args.file.now c.loop-n.a c.args.end (omega arith)) in
     let full : Placed c.args.file.now (c.loop-n.n + 1)
     (set c.loop-n.starts c.loop-n.n c.loop-n.a) (set c.loop-n.ends c.loop-n.n (c.loop-n.a + c.find.result))
     (fields_of (part c.args.file.now c.args.start c.args.end)) =
-        going_end
-        (going_more c.loop-n.invariant.4 c.loop-n.a (c.loop-n.a + c.find.result) [] (omega arith) (omega arith) (omega arith) (omega (arith, near))
-        (fields_last c.args.file.now c.loop-n.a (c.loop-n.a + c.find.result) c.args.end (omega arith) (omega arith) (ap (λ (k : ℕ). c.loop-n.a + k) c.find.ensures) c.if-e-end.true)) in
+    going_end
+    (going_more c.loop-n.invariant.4 c.loop-n.a (c.loop-n.a + c.find.result) [] (omega arith) (omega arith) (omega arith) (omega (arith, near))
+    (fields_last c.args.file.now c.loop-n.a (c.loop-n.a + c.find.result) c.args.end (omega arith) (omega arith) (ap (λ (k : ℕ). c.loop-n.a + k) c.find.ensures) c.if-e-end.true)) in
     λ h. let r = placed_at (full) 2 h in (r.low, r.high)
 
 pub returns-then-e-end : goal.returns-then-e-end
 returns-then-e-end c =
     let near : c.loop-n.a + c.find.result ≤ c.args.end =
-        let l = part c.args.file.now c.loop-n.a c.args.end in
-        omega (arith, c.find.ensures, first_le (is_byte 44) l, part_length c.args.file.now c.loop-n.a c.args.end (omega arith)) in
+    let l = part c.args.file.now c.loop-n.a c.args.end in
+    omega (arith, c.find.ensures, first_le (is_byte 44) l, part_length c.args.file.now c.loop-n.a c.args.end (omega arith)) in
     let full : Placed c.args.file.now (c.loop-n.n + 1)
     (set c.loop-n.starts c.loop-n.n c.loop-n.a) (set c.loop-n.ends c.loop-n.n (c.loop-n.a + c.find.result))
     (fields_of (part c.args.file.now c.args.start c.args.end)) =
-        going_end
-        (going_more c.loop-n.invariant.4 c.loop-n.a (c.loop-n.a + c.find.result) [] (omega arith) (omega arith) (omega arith) (omega (arith, near))
-        (fields_last c.args.file.now c.loop-n.a (c.loop-n.a + c.find.result) c.args.end (omega arith) (omega arith) (ap (λ (k : ℕ). c.loop-n.a + k) c.find.ensures) c.if-e-end.true)) in
+    going_end
+    (going_more c.loop-n.invariant.4 c.loop-n.a (c.loop-n.a + c.find.result) [] (omega arith) (omega arith) (omega arith) (omega (arith, near))
+    (fields_last c.args.file.now c.loop-n.a (c.loop-n.a + c.find.result) c.args.end (omega arith) (omega arith) (ap (λ (k : ℕ). c.loop-n.a + k) c.find.ensures) c.if-e-end.true)) in
     let f = rw (← fields_few (part c.args.file.now c.args.start c.args.end) (omega (arith, (full).count))) at (full) in
     record {
       type = c.third-record_type.ensures ∙ type_third _ f;
@@ -61,15 +61,15 @@ returns-then-e-end c =
 pub overflow_add-a : goal.overflow_add-a
 overflow_add-a c =
     let near : c.loop-n.a + c.find.result ≤ c.args.end =
-        let l = part c.args.file.now c.loop-n.a c.args.end in
-        omega (arith, c.find.ensures, first_le (is_byte 44) l, part_length c.args.file.now c.loop-n.a c.args.end (omega arith)) in
+    let l = part c.args.file.now c.loop-n.a c.args.end in
+    omega (arith, c.find.ensures, first_le (is_byte 44) l, part_length c.args.file.now c.loop-n.a c.args.end (omega arith)) in
     omega (arith, near)
 
 pub loop-n-preserved : goal.loop-n-preserved
 loop-n-preserved c =
     let near : c.loop-n.a + c.find.result ≤ c.args.end =
-        let l = part c.args.file.now c.loop-n.a c.args.end in
-        omega (arith, c.find.ensures, first_le (is_byte 44) l, part_length c.args.file.now c.loop-n.a c.args.end (omega arith)) in
+    let l = part c.args.file.now c.loop-n.a c.args.end in
+    omega (arith, c.find.ensures, first_le (is_byte 44) l, part_length c.args.file.now c.loop-n.a c.args.end (omega arith)) in
     let e = c.loop-n.a + c.find.result in (
       omega arith,
       omega (arith, near, c.if-e-end.false),
@@ -92,4 +92,3 @@ returns c =
       starts = c.loop-n.invariant.2;
       ends = c.loop-n.invariant.3;
     }
-

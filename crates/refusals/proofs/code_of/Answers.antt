@@ -19,4 +19,3 @@ returns-then-code-eq0 c = codes_zero c.args.test (omega arith) c.if-code-eq0.tru
 pub returns : goal.returns
 unfolding tabulate code_in code_of code_table
 returns c = codes_some c.args.test (omega arith) c.if-code-eq0.false
-

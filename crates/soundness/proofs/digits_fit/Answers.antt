@@ -12,4 +12,3 @@ unfolding digits_fit
 returns c =
     let charge : to_z w64 (of_z w64 c.args.e.charge) ≡ c.args.e.charge = search rules in
     let usage : to_z w64 (of_z w64 c.args.e.usage) ≡ c.args.e.usage = search rules in cc
-

@@ -7,4 +7,3 @@ use Rattle.soundness.proofs.entry_fits.Goals as goal
 pub returns : goal.returns
 unfolding entry_fits days_fit
 returns c = cc
-

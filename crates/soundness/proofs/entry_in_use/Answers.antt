@@ -7,4 +7,3 @@ use Rattle.soundness.proofs.entry_in_use.Goals as goal
 
 pub returns : goal.returns
 returns c = c.entry_at.ensures ∙ sym (entry_of_lem c.args.words.now c.args.amounts.now c.args.used c.args.i c.requires.1)
-

@@ -17,4 +17,3 @@ returns-then-e-cancel c = simp (ne_eqb _ _ c.if-e-cancel.true, and-false)
 pub returns : goal.returns
 unfolding is_named
 returns c = simp (c.has_same_subject.ensures, eq-eqb _ _ c.if-e-ne-CANCELLED.false, eq-eqb _ _ c.if-e-cancel.false)
-

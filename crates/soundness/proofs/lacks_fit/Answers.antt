@@ -7,4 +7,3 @@ use Rattle.soundness.proofs.lacks_fit.Goals as goal
 pub returns : goal.returns
 unfolding lacks_fit
 returns c = cc
-

@@ -7,4 +7,3 @@ use Rattle.soundness.proofs.ranges_fit.Goals as goal
 pub returns : goal.returns
 unfolding ranges_fit
 returns c = cc
-

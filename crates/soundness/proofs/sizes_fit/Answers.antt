@@ -11,4 +11,3 @@ returns-then-places-gt8192 c = simp (lt-leb _ _ c.if-places-gt8192.true)
 pub returns : goal.returns
 unfolding sizes_fit
 returns c = simp (le-leb _ _ c.if-places-gt8192.false)
-

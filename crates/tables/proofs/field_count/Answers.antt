@@ -45,4 +45,3 @@ returns-in-8 c = rw c.in-8.is
 pub returns-in_default : goal.returns-in_default
 unfolding field_count
 returns-in_default c = sym (get_or-eq_default field_counts 0 (past_those 9 c.in_default.in_default-own.rest))
-

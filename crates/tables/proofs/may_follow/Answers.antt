@@ -17,4 +17,3 @@ returns-then-present-ge9 c = simp (le-ltb _ _ c.if-present-ge9.true, and-false)
 pub returns : goal.returns
 unfolding may_follow
 returns c = simp (lt-ltb _ _ c.if-previous-ge9.false, lt-ltb _ _ c.if-present-ge9.false, c.requires)
-

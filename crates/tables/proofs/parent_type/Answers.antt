@@ -44,4 +44,3 @@ returns-in-8 c = rw c.in-8.is
 pub returns-in_default : goal.returns-in_default
 unfolding parent_type
 returns-in_default c = simp (le-ltb _ 9 (past_those 9 c.in_default.in_default-own.rest))
-

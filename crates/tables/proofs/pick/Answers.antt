@@ -20,4 +20,3 @@ pub returns : goal.returns
 unfolding picked
 returns c =
     tabling_end (picked_at c.args.types.now c.args.values.now c.args.low c.args.high) c.args.out.now (length c.args.types.now) c.loop-i.i c.loop-i.out (omega arith) c.loop-i.invariant.2
-

@@ -95,4 +95,3 @@ returns-in_default c =
     let named_here : (n : ℕ) → c.wide.result * 256 + c.wide-2.result ≡ n → first_where (is_byte n) type_letters ≡ type_named c.args.s.now = λ n e. named c.args.s.now n c.if-s-ne2.false (rw (c.wide.ensures, c.wide-2.ensures) at e) in
     let n = c.wide.result * 256 + c.wide-2.result in
     sym (unnamed n c.in_default.in_default-own.rest.0.0.0.0.0.0.0.0.1 c.in_default.in_default-own.rest.0.0.0.0.0.0.0.1 c.in_default.in_default-own.rest.0.0.0.0.0.0.1 c.in_default.in_default-own.rest.0.0.0.0.0.1 c.in_default.in_default-own.rest.0.0.0.0.1 c.in_default.in_default-own.rest.0.0.0.1 c.in_default.in_default-own.rest.0.0.1 c.in_default.in_default-own.rest.0.1 c.in_default.in_default-own.rest.1) ∙ named_here n refl
-

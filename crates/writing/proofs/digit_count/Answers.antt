@@ -30,4 +30,3 @@ loop-v-preserved c = step c.loop-v.k c.loop-v.v _ c.loop-v.invariant.0 c.loop-v.
 
 pub returns : goal.returns
 returns c = omega (arith, c.loop-v.invariant.3, count_end (20 - c.loop-v.k) c.loop-v.v (omega arith))
-

@@ -12,14 +12,12 @@ use Rattle.writing.proofs.Loops.{bytes_back, bytes_end}
 use Rattle.writing.proofs.write_bytes.Goals as goal
 
 pub loop-k-preserved : goal.loop-k-preserved
-loop-k-preserved c =
-    (
-      omega arith,
-      simp length-set c.loop-k.invariant.1,
-      c.loop-k.invariant.2 ∙ bytes_back c.loop-k.out c.args.at c.args.bytes.now c.loop-k.k (omega arith) (omega arith) (omega arith),
-    )
+loop-k-preserved c = (
+  omega arith,
+  simp length-set c.loop-k.invariant.1,
+  c.loop-k.invariant.2 ∙ bytes_back c.loop-k.out c.args.at c.args.bytes.now c.loop-k.k (omega arith) (omega arith) (omega arith),
+)
 
 pub returns : goal.returns
 returns c =
     sym (c.loop-k.invariant.2 ∙ bytes_end c.loop-k.out c.args.at c.args.bytes.now c.loop-k.k (omega arith))
-

@@ -12,14 +12,12 @@ use Rattle.writing.proofs.Loops.{digits_back, digits_end}
 use Rattle.writing.proofs.write_digits.Goals as goal
 
 pub loop-k-preserved : goal.loop-k-preserved
-loop-k-preserved c =
-    (
-      omega arith,
-      simp length-set c.loop-k.invariant.1,
-      c.loop-k.invariant.2 ∙ digits_back c.loop-k.out c.args.at c.loop-k.k c.loop-k.v _ (omega arith) (omega arith) c.last_digit.ensures,
-    )
+loop-k-preserved c = (
+  omega arith,
+  simp length-set c.loop-k.invariant.1,
+  c.loop-k.invariant.2 ∙ digits_back c.loop-k.out c.args.at c.loop-k.k c.loop-k.v _ (omega arith) (omega arith) c.last_digit.ensures,
+)
 
 pub returns : goal.returns
 returns c =
     sym (c.loop-k.invariant.2 ∙ digits_end c.loop-k.out c.args.at c.loop-k.k c.loop-k.v (omega arith))
-

@@ -21,9 +21,7 @@ pub overflow_add-result : goal.overflow_add-result
 overflow_add-result c = omega (arith, plain_length c.args.n, c.digit_count-k.ensures)
 
 pub returns : goal.returns
-returns c =
-    (
-      c.write_digits.ensures ∙ same c.args.out.now c.args.at c.args.n _ c.digit_count-k.ensures,
-      omega (arith, plain_length c.args.n, c.digit_count-k.ensures),
-    )
-
+returns c = (
+  c.write_digits.ensures ∙ same c.args.out.now c.args.at c.args.n _ c.digit_count-k.ensures,
+  omega (arith, plain_length c.args.n, c.digit_count-k.ensures),
+)

@@ -14,12 +14,11 @@ bounds-table-k c = omega (arith, entries c.args.table.now c.requires.0)
 pub overflow_sub-result : goal.overflow_sub-result
 overflow_sub-result c =
     let start : get_or c.args.table.now c.month_of_day-k.result 0 ≡ first_day c.month_of_day-k.result =
-        entry_is c.args.table.now c.month_of_day-k.result c.requires.0 c.month_of_day-k.ensures.month in
+    entry_is c.args.table.now c.month_of_day-k.result c.requires.0 c.month_of_day-k.ensures.month in
     omega (arith, start)
 
 pub returns : goal.returns
 returns c =
     let start : get_or c.args.table.now c.month_of_day-k.result 0 ≡ first_day c.month_of_day-k.result =
-        entry_is c.args.table.now c.month_of_day-k.result c.requires.0 c.month_of_day-k.ensures.month in
+    entry_is c.args.table.now c.month_of_day-k.result c.requires.0 c.month_of_day-k.ensures.month in
     omega (arith, start, month_number c.month_of_day-k.result c.args.day c.month_of_day-k.ensures)
-

@@ -28,4 +28,3 @@ loop-k-preserved c =
 
 pub returns : goal.returns
 returns c = in_last c.loop-k.k c.args.day (omega arith) c.loop-k.invariant.1 (omega arith)
-

@@ -16,4 +16,3 @@ written out at day n e = ap (λ (k : ℕ). written_at out at (digits_in 8 k)) e
 pub returns : goal.returns
 returns c =
     c.write_digits.ensures ∙ written c.args.out.now c.args.at c.args.day _ c.date_number.ensures
-

@@ -8,4 +8,3 @@ use Rattle.written_lines.proofs.put_bytes.Goals as goal
 
 pub returns : goal.returns
 returns c = put_of c.args.out.now c.write_bytes.new.out c.args.bytes.now c.args.at _ c.args.end (omega arith) c.write_bytes.ensures refl
-

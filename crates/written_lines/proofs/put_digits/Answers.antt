@@ -12,4 +12,3 @@ pub returns : goal.returns
 returns c =
     let l = digits_in_length c.args.width c.args.n in
     put_of c.args.out.now c.write_digits.new.out (digits_in c.args.width c.args.n) c.args.at (c.args.at + c.args.width) c.args.end (omega arith) c.write_digits.ensures (omega arith)
-

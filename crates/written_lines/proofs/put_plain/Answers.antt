@@ -8,4 +8,3 @@ use Rattle.written_lines.proofs.put_plain.Goals as goal
 
 pub returns : goal.returns
 returns c = put_of c.args.out.now c.write_plain-to.new.out (plain_digits c.args.n) c.args.at _ c.args.end (omega arith) c.write_plain-to.ensures.0 c.write_plain-to.ensures.1
-

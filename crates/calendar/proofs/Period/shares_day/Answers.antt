@@ -7,4 +7,3 @@ use Rattle.calendar.proofs.Period.shares_day.Goals as goal
 pub returns : goal.returns
 unfolding shares_day
 returns c = rw (c.later.ensures, c.earlier.ensures)
-
