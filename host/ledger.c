@@ -71,7 +71,7 @@ static void print_help(void) {
           "Books tariff bill files into a ledger in memory, in the order in which they are named. Prints a line for each:\n"
           "  accepted ADDED HELD        booked: how many entries were added, and how many of them are held\n"
           "  rejected NUMBER CODE LINE  refused: docs/REFUSALS.md has the numbers\n"
-          "then the totals of the live entries and of the held ones, and then what --entries, --find and --disputes ask for.\n"
+          "then the totals of the live entries and of the held ones, and then what --entries and --find ask for.\n"
           "\n"
           "  --retailer N               our retailer number (999999999)\n"
           "  --distributors DDDD...     the distributor IDs whose files are taken, four digits each (0040)\n"
@@ -79,12 +79,10 @@ static void print_help(void) {
           "  --used N                   the used count at the start, over entries of zeros, which are not sound (0)\n"
           "  --entries                  each used entry: its place and its fields, as host/intake.h counts them\n"
           "  --find SITE DATE           the live period of a site that has a day, YYYYMMDD; may be given several times\n"
-          "  --disputes ID DATETIME     a TBD transaction for each held entry: their Transaction IDs counted from ID, created at\n"
-          "                             DATETIME, YYYYMMDDHHMMSS\n"
           "  --help                     this text\n"
           "\n"
-          "Exit status: 0; 1 where a file, the totals, a --find or a dispute was refused; 2 for bad usage, and for a file that\n"
-          "can't be read, after which none is booked.\n",
+          "Exit status: 0; 1 where a file, the totals or a --find was refused; 2 for bad usage, and for a file that can't be\n"
+          "read, after which none is booked.\n",
           stdout);
 }
 

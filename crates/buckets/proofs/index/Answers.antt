@@ -11,5 +11,4 @@ overflow_cast-leaders c = omega (arith, first_no_later c.args.values.now c.loop-
 
 pub loop-i-preserved : goal.loop-i-preserved
 loop-i-preserved c =
-    let put = c.put in
-    indexing_more _ c.args.values.now _ _ c.loop-i-test.true _ put.auto.1.1.1.0 put.ensures c.requires.n_in_bounds.5 c.loop-i.invariant
+    indexing_more _ c.args.values.now _ _ c.loop-i-test.true _ c.put.auto.tree c.put.ensures c.requires.n_in_bounds.5 c.loop-i.invariant

@@ -7,4 +7,4 @@ use native.Mathlib.Omega.{arith}
 use Rattle.buckets.proofs.put.Goals as goal
 
 pub returns : goal.returns
-returns c = let found = c.search-spot in (put_place _ _ _ _ c.requires.indexed found.result found.ensures c.if-content-ne0.false (omega (arith, found.ensures.below)), sym (found.ensures.none c.if-content-ne0.false))
+returns c = (put_place _ _ _ _ c.requires.indexed c.search-spot.result c.search-spot.ensures c.if-content-ne0.false (omega (arith, c.search-spot.ensures.below)), sym (c.search-spot.ensures.none c.if-content-ne0.false))

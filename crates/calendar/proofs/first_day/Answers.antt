@@ -15,6 +15,5 @@ bounds-table-month c = omega (arith, ap length c.requires.0 ∙ table_length)
 
 pub returns : goal.returns
 returns c =
-    let k = c.args.month in
-    let same : get_or c.args.table.now k 0 ≡ first_day k = ap (λ (l : List ℕ). get_or l k 0) c.requires.0 ∙ rule k c.requires.1 in
-    (same, subst (λ (d : ℕ). d ≤ 36494) (sym same) (bound k c.requires.1))
+    let same : get_or c.args.table.now c.args.month 0 ≡ first_day c.args.month = ap (λ (l : List ℕ). get_or l c.args.month 0) c.requires.0 ∙ rule c.args.month c.requires.1 in
+    (same, subst (λ (d : ℕ). d ≤ 36494) (sym same) (bound c.args.month c.requires.1))

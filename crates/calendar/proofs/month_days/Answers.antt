@@ -10,25 +10,24 @@ use Rattle.calendar.proofs.month_days.Goals as goal
 
 pub returns-then-leap : goal.returns-then-leap
 unfolding month_days
-returns-then-leap c = simp (eq-eqb _ _ c.in-1.keys1, sym c.leap.ensures ∙ c.if-leap.true)
+returns-then-leap c = simp (eq-eqb _ _ c.in-1.is, sym c.leap.ensures ∙ c.if-leap.true)
 
 pub returns-else-leap : goal.returns-else-leap
 unfolding month_days
-returns-else-leap c = simp (eq-eqb _ _ c.in-1.keys1, sym c.leap.ensures ∙ c.if-leap.false)
+returns-else-leap c = simp (eq-eqb _ _ c.in-1.is, sym c.leap.ensures ∙ c.if-leap.false)
 
 pub returns-in-3 : goal.returns-in-3
 unfolding month_days
-returns-in-3 c = ⊎_elim (λ e. rw e) (⊎_elim (λ e. rw e) (⊎_elim (λ e. rw e) (λ e. rw e))) c.in-3.keys2
+returns-in-3 c = ⊎_elim (λ e. rw e) (⊎_elim (λ e. rw e) (⊎_elim (λ e. rw e) (λ e. rw e))) c.in-3.is
 
 pub returns-in_default : goal.returns-in_default
 unfolding month_days
 returns-in_default c =
     let m = c.args.month % 12 in
-    let no = c.in_default.rest.1 in
     simp (
-      ne_eqb m 1 c.in_default.rest.0.1,
-      ne_eqb m 3 (λ e. no (inl e)),
-      ne_eqb m 5 (λ e. no (inr (inl e))),
-      ne_eqb m 8 (λ e. no (inr (inr (inl e)))),
-      ne_eqb m 10 (λ e. no (inr (inr (inr e)))),
+      ne_eqb m 1 c.in_default.in_default-own.rest.0.1,
+      ne_eqb m 3 (λ e. c.in_default.in_default-own.rest.1 (inl e)),
+      ne_eqb m 5 (λ e. c.in_default.in_default-own.rest.1 (inr (inl e))),
+      ne_eqb m 8 (λ e. c.in_default.in_default-own.rest.1 (inr (inr (inl e)))),
+      ne_eqb m 10 (λ e. c.in_default.in_default-own.rest.1 (inr (inr (inr e)))),
     )

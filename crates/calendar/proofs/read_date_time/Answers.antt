@@ -18,21 +18,19 @@ returns-then-s-ne14 c = simp (ne_eqb _ _ c.if-s-ne14.true)
 
 pub returns-in_default : goal.returns-in_default
 unfolding date_time_of
-returns-in_default c = simp (eq-eqb _ _ c.if-s-ne14.false, ← c.read_day.ensures, c.enum_told-1.given.1)
+returns-in_default c = simp (eq-eqb _ _ c.if-s-ne14.false, ← c.read_day.ensures, c.in_default.is)
 
 pub returns-in_default-digits : goal.returns-in_default-digits
 unfolding date_time_of
 returns-in_default-digits c =
     let time : digits_of (drop 8 c.args.s.now) ≡ c.digits.result =
-    let s = c.args.s.now in
-    rw (← take_all (length s - 8) (drop 8 s) (rw length-drop (le_refl _))) (sym c.digits.ensures) in
-    simp (eq-eqb _ _ c.if-s-ne14.false, ← c.read_day.ensures, c.day-1.given.1, time, c.enum_told-in_default-digits-1.given.1)
+    rw (← take_all (length c.args.s.now - 8) (drop 8 c.args.s.now) (rw length-drop (le_refl _))) (sym c.digits.ensures) in
+    simp (eq-eqb _ _ c.if-s-ne14.false, ← c.read_day.ensures, c.in-At.is, time, c.in_default-digits.is)
 
 pub returns : goal.returns
 unfolding date_time_of
 returns c =
     let time : digits_of (drop 8 c.args.s.now) ≡ c.digits.result =
-    let s = c.args.s.now in
-    rw (← take_all (length s - 8) (drop 8 s) (rw length-drop (le_refl _))) (sym c.digits.ensures) in
-    simp (eq-eqb _ _ c.if-s-ne14.false, ← c.read_day.ensures, c.day-1.given.1, time, c.n-1.given.1)
+    rw (← take_all (length c.args.s.now - 8) (drop 8 c.args.s.now) (rw length-drop (le_refl _))) (sym c.digits.ensures) in
+    simp (eq-eqb _ _ c.if-s-ne14.false, ← c.read_day.ensures, c.in-At.is, time, c.in-Value.is)
     c.at_time.ensures

@@ -8,7 +8,9 @@ use Rattle.identity.proofs.Search.{tree_asks, tree_first}
 use Rattle.identity.proofs.first_of_few.Goals as goal
 
 pub first_repeated-requires : goal.first_repeated-requires
-first_repeated-requires c = tree_asks c.args.ids.now 1024 3072 (lit< tt) (lit≤ tt) (omega arith) (omega arith)
+first_repeated-requires c =
+    let all = tree_asks c.args.ids.now 1024 3072 (lit< tt) (lit≤ tt) (omega arith) (omega arith) in
+    record { n_in_bounds = all.0; by_index = all.1 }
 
 pub returns : goal.returns
 returns c = c.first_repeated.ensures.value ∙ tree_first c.args.ids.now

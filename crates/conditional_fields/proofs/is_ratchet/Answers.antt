@@ -11,8 +11,7 @@ use Rattle.amounts.specs.declared.Amount.TheVariants.{Value as Units}
 use Rattle.amounts.proofs.Sayings.{said_plain, said_units}
 use Rattle.format.specs.Conditional.{is_one_of, ratchets}
 use Rattle.format.proofs.Conditional.{one_of}
-use Rattle.conditional_fields.proofs.is_ratchet.Statement.{statement}
-use Rattle.conditional_fields.proofs.is_ratchet.Tie as tie
+use Rattle.conditional_fields.proofs.is_ratchet.Goals as goal
 
 -- the number is that of a ratchet
 abbrev Says : ℕ → Type 0
@@ -34,11 +33,8 @@ says_none x none = go (is_one_of ratchets (said_by x)) refl
         let is = said_units x w.0 w.1 in
         absurd (none (⊎_elim (λ q. inl (is ∙ ap (λ (n : ℕ). 10 ^ 15 + n) q)) (⊎_elim (λ q. inr (inl (is ∙ ap (λ (n : ℕ). 10 ^ 15 + n) q))) (⊎_elim (λ q. inr (inr (inl (is ∙ ap (λ (n : ℕ). 10 ^ 15 + n) q)))) (λ q. inr (inr (inr (is ∙ ap (λ (n : ℕ). 10 ^ 15 + n) q)))))) w.2))
 
-returns : tie.Need-returns
-returns c = says-one c.before.args.number c.match.keys1
+pub returns-in-1000000000004100 : goal.returns-in-1000000000004100
+returns-in-1000000000004100 c = says-one c.args.number c.in-1000000000004100.is
 
-returns-2 : tie.Need-returns-2
-returns-2 c = says_none c.before.args.number c.match.rest.1
-
-pub is-ratchet-spec : {M : Type 1} → statement M
-is-ratchet-spec = tie.close (tie.spec returns returns-2)
+pub returns-in_default : goal.returns-in_default
+returns-in_default c = says_none c.args.number c.in_default.in_default-own.rest.1
