@@ -16,13 +16,13 @@ loop-g-init c =
 
 pub returns-then-is_value : goal.returns-then-is_value
 returns-then-is_value c =
-    let here = group_told c.args.distributors.now c.args.sender c.loop-g.g c.fixed_digits.ensures c.is_value_lem.ensures ∙ c.if-is_value.true in
+    let here = group_told c.args.distributors.now c.args.sender c.loop-g.g c.fixed_digits.ensures c.is_value.ensures ∙ c.if-is_value.true in
     let first = searched_here (is_sender c.args.distributors.now c.args.sender) (length c.args.distributors.now / 4) c.loop-g.g (omega arith) c.loop-g.invariant.1 here in
     sym (found_some (is_sender c.args.distributors.now c.args.sender) (length c.args.distributors.now / 4) c.loop-g.g (omega arith) first)
 
 pub loop-g-preserved : goal.loop-g-preserved
 loop-g-preserved c =
-    let other = group_told c.args.distributors.now c.args.sender c.loop-g.g c.fixed_digits.ensures c.is_value_lem.ensures ∙ c.if-is_value.false in
+    let other = group_told c.args.distributors.now c.args.sender c.loop-g.g c.fixed_digits.ensures c.is_value.ensures ∙ c.if-is_value.false in
     (omega arith, searched_more (is_sender c.args.distributors.now c.args.sender) (length c.args.distributors.now / 4) c.loop-g.g (omega arith) c.loop-g.invariant.1 other)
 
 pub returns : goal.returns
