@@ -31,11 +31,11 @@ use Rattle.entries.proofs.Room.{room_fewer}
 use Rattle.soundness.specs.Sound.{is_sound, sizes_fit, entries_sound}
 use Rattle.soundness.specs.InsideRoom.{read_count}
 use Rattle.soundness.proofs.Sizes.{sizes_mean, room_in_use}
-use Rattle.booking.specs.Booking.{Settings, Input, input_of, opening_refusals, book_refusals, ledger_refusals, Result, file_of, ledger_of, cancels, originals, file_entry, entry, booked, book_refusal, is_booked, ledger_after, added_by, refused_result, accepted_result, result_of, book_result, used_after, run_after, Booked}
+use Rattle.booking.specs.Booking.{Settings, Input, input_of, opening_refusals, book_refusals, ledger_refusals, Result, file_of, ledger_of, cancels, originals, file_entry, entry, booked, book_refusal, is_booked, ledger_after, added_by, refused_result, accepted_result, result_of, book_result, used_after, run_after}
 use Rattle.booking.proofs.Added.{cancel_all, cancel_entries, original_entries, booked_parts, length_cancel_all, length_booked, added_count}
 use Rattle.booking.proofs.Accepting.{accepted_unrefused}
 use Rattle.booking.proofs.AcceptedFile.{accepted_passes}
-use Rattle.booking.proofs.Lent.{same_result, unsound_same, unsound_result}
+use Rattle.booking.proofs.Lent.{same_result, unsound_same}
 use Rattle.booking.proofs.Steps.{refused_leaves, used_accepted, run_accepted, used_entries_after}
 use Rattle.runs.specs.InsideCopies.{placed}
 use Rattle.book.proofs.Rooms.{used_room}
