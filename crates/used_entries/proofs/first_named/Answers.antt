@@ -1,0 +1,17 @@
+-- `used_entries::first_named` meets its contract: without a Reference ID nothing is named, and with one the walk decides.
+-- Assumes nothing.
+use mathlib.Core.Path.{sym, ap, ◌∙◌}
+use Prim.Native.Nat.{ℕ}
+use borrow.Author.Rules.{rules}
+use borrow.Author.Tests.{ne_eqb}
+use Rattle.used_entries.specs.InsideSearches.{names_as, named_first, wants, wanted_at}
+use Rattle.used_entries.proofs.Laws.{named_none}
+use Rattle.used_entries.proofs.first_named.Goals as goal
+
+pub returns-then-reference-eq0 : goal.returns-then-reference-eq0
+returns-then-reference-eq0 c =
+    sym (ap (λ (r : ℕ). named_first c.args.words.now c.args.amounts.now c.args.used c.args.marks.now r c.args.c) c.if-reference-eq0.true ∙ named_none c.args.words.now c.args.amounts.now c.args.used c.args.marks.now c.args.c)
+
+pub returns : goal.returns
+unfolding named_first names_as wanted_at wants
+returns c = simp (ne_eqb c.args.reference 0 c.if-reference-eq0.false) c.first_wanted.ensures
