@@ -11,7 +11,6 @@ use Rattle.sound_ledgers.specs.InsidePairing.{Marked}
 use Rattle.sound_ledgers.proofs.Pairing.{marked_none, marked_more, marked_kept, unpaired_cancel, marked_twice}
 use borrow.Author.Rules.{rules}
 use native.Mathlib.Omega.{arith}
-use Rattle.sound_ledgers.proofs.mark_cancelled.Goals.{else-states-i-eq-CANCEL, then-states-i-eq-CANCEL+else-used-j+else-marks-j-ne0}
 use Rattle.sound_ledgers.proofs.mark_cancelled.Goals as goal
 
 pub loop-i-preserved : goal.loop-i-preserved
@@ -19,12 +18,4 @@ loop-i-preserved c =
     let es = entries_of c.args.words.now c.args.amounts.now c.args.used in
     let state = c.requires.copied.0 c.loop-i.i c.loop-i-test.true in
     let room : length c.loop-i.marks ≡ length c.args.marks.now = c.loop-i.invariant.1 in
-    elim c.if-states-i-eq-CANCEL.branch [
-      | then-states-i-eq-CANCEL+else-used-j+else-marks-j-ne0 w ↦
-          let j = w.cancelled_place-j.result in
-          let more = marked_more es c.loop-i.i c.loop-i.marks c.loop-i.invariant.2 j (w.cancelled_place-j.ensures.cancels w.if-used-j.false) w.if-marks-j-ne0.false (omega (arith, room, w.if-used-j.false, c.requires.room_for)) in
-          (omega arith, ap length w.marks-is ∙ simp length-set room, subst (λ (m : List ℕ). Marked es (c.loop-i.i + 1) m) (sym w.marks-is) more)
-      | else-states-i-eq-CANCEL w ↦
-          let kept = marked_kept es c.loop-i.i c.loop-i.marks c.loop-i.invariant.2 (λ cancel. w.if-states-i-eq-CANCEL.false (state ∙ cancel)) in
-          (omega arith, ap length w.marks-is ∙ room, subst (λ (m : List ℕ). Marked es (c.loop-i.i + 1) m) (sym w.marks-is) kept)
-    ]
+    grind (arith, state, room, c.loop-i.invariant.2, length-set, marked_more es c.loop-i.i c.loop-i.marks, marked_kept es c.loop-i.i c.loop-i.marks)
