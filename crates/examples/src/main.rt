@@ -4,7 +4,7 @@
 
 #![tactic(auto)]
 
-ghost use Rattle.std.specs.Prelude.{◌≡◌, ◌≤◌, length, IfOk};
+ghost use Rattle.std.specs.Prelude.{◌≡◌, ◌≤◌, length, take, IfOk};
 ghost use Rattle.entries.specs.InsideWords.{RoomFor};
 ghost use Rattle.booking.specs.Booking.{result_of};
 
@@ -103,7 +103,7 @@ fn added(answer: Answer) -> usize
 
 // Reads until the bytes are full or the input ends, and returns how many were read.
 fn read_full(input: &mut impl Read, bytes: &mut [u8]) -> io::Result<usize>
-    ensures { IfOk result (λ n. n ≤ length bytes.new) }
+    ensures { IfOk result (λ n. (n ≤ length bytes.new) × (n ≡ length (take n bytes.new))) }
 {
     let mut done = 0;
     while done < bytes.len() {
@@ -118,7 +118,7 @@ fn read_full(input: &mut impl Read, bytes: &mut [u8]) -> io::Result<usize>
 
 // Reads a file into the bytes and returns how many were read.
 fn read_named(rt: &impl Files, name: &str, bytes: &mut [u8]) -> io::Result<usize>
-    ensures { IfOk result (λ n. n ≤ length bytes.new) }
+    ensures { IfOk result (λ n. (n ≤ length bytes.new) × (n ≡ length (take n bytes.new))) }
 {
     let mut file = fs::open(rt, name)?;
     read_full(&mut file, bytes)
