@@ -101,32 +101,39 @@ fn added(answer: Answer) -> usize
     }
 }
 
-// Reads until the bytes are full or the input ends, and returns how many were read.
-fn read_full(input: &mut impl Read, bytes: &mut [u8]) -> io::Result<usize>
-    ensures { IfOk result (λ n. (n ≤ length bytes.new) × (n ≡ length (take n bytes.new))) }
+// Reads until the bytes are full, or the input ends or fails, and returns how many were read.
+fn read_full(input: &mut impl Read, bytes: &mut [u8]) -> usize
+    ensures { (result ≤ length bytes.new) × (result ≡ length (take result bytes.new)) }
 {
     let mut done = 0;
     while done < bytes.len() {
-        let n = input.read(&mut bytes[done..])?;
+        let Ok(n) = input.read(&mut bytes[done..]) else {
+            break;
+        };
         if n == 0 {
             break;
         }
         done += n;
     }
-    Ok(done)
+    done
 }
 
-// Reads a file into the bytes and returns how many were read.
-fn read_named(rt: &impl Files, name: &str, bytes: &mut [u8]) -> io::Result<usize>
+// Reads a file into the bytes and returns how many were read: 0 where it can't be opened, which is said on standard error.
+fn read_named(rt: &(impl Files + Eprint), name: &str, bytes: &mut [u8]) -> io::Result<usize>
     ensures { IfOk result (λ n. (n ≤ length bytes.new) × (n ≡ length (take n bytes.new))) }
 {
-    let mut file = fs::open(rt, name)?;
-    read_full(&mut file, bytes)
+    match fs::open(rt, name) {
+        Ok(mut file) => Ok(read_full(&mut file, bytes)),
+        Err(error) => {
+            eprintln!(rt; "{name}: {error}")?;
+            Ok(0)
+        }
+    }
 }
 
 // Books a file, prints the answer and returns the used count afterwards.
 fn book_named(
-    rt: &(impl Files + Print),
+    rt: &(impl Files + Print + Eprint),
     name: &str,
     words: &mut [u64],
     amounts: &mut [i64],
@@ -178,7 +185,7 @@ fn print_ledger(
 }
 
 // Into an empty ledger of so many places: A's file, and another.
-fn book_two(rt: &(impl Files + Print), places: usize, second: &str) -> io::Result<()>
+fn book_two(rt: &(impl Files + Print + Eprint), places: usize, second: &str) -> io::Result<()>
     requires { places ≤ 512 }
 {
     let mut words = [0u64; 4608];
@@ -191,7 +198,7 @@ fn book_two(rt: &(impl Files + Print), places: usize, second: &str) -> io::Resul
 }
 
 // Into an empty ledger of 512 places: A's file, B's, and another.
-fn book_three(rt: &(impl Files + Print), third: &str) -> io::Result<()> {
+fn book_three(rt: &(impl Files + Print + Eprint), third: &str) -> io::Result<()> {
     let mut words = [0u64; 4608];
     let mut amounts = [0i64; 1024];
     print(rt, b"places 512\n")?;
@@ -201,7 +208,7 @@ fn book_three(rt: &(impl Files + Print), third: &str) -> io::Result<()> {
     print_ledger(rt, &words, &amounts, 512, three)
 }
 
-fn show_ledgers(rt: &(impl Files + Print)) -> io::Result<()> {
+fn show_ledgers(rt: &(impl Files + Print + Eprint)) -> io::Result<()> {
     // "A books January, 100.00. B cancels it and rebills 90.00: accepted 90.00, live 90.00."
     book_two(rt, 512, "b.csv")?;
     // "A cancel of -99.99 instead gets 40."
