@@ -4,7 +4,8 @@
 
 #![tactic(auto)]
 
-ghost use Rattle.std.specs.Prelude.{◌≡◌, ◌≤◌, length, take, IfOk};
+ghost use Rattle.std.specs.Prelude.{◌≡◌, ◌≤◌, IfOk};
+ghost use Rattle.std.specs.Counts.{IsPrefixLen};
 ghost use Rattle.entries.specs.InsideWords.{RoomFor};
 ghost use Rattle.booking.specs.Booking.{result_of};
 
@@ -14,7 +15,6 @@ use calendar::Day;
 use digits::Number;
 use ledger::{Found, Totals};
 use refusals::RejectionCode;
-use std::io::Read;
 use std::rt::Files;
 use std::{fs, io};
 
@@ -101,29 +101,12 @@ fn added(answer: Answer) -> usize
     }
 }
 
-// Reads until the bytes are full, or the input ends or fails, and returns how many were read.
-fn read_full(input: &mut impl Read, bytes: &mut [u8]) -> usize
-    ensures { (result ≤ length bytes.new) × (result ≡ length (take result bytes.new)) }
-{
-    let mut done = 0;
-    while done < bytes.len() {
-        let Ok(n) = input.read(&mut bytes[done..]) else {
-            break;
-        };
-        if n == 0 {
-            break;
-        }
-        done += n;
-    }
-    done
-}
-
 // Reads a file into the bytes and returns how many were read: 0 where it can't be opened, which is said on standard error.
 fn read_named(rt: &(impl Files + Eprint), name: &str, bytes: &mut [u8]) -> io::Result<usize>
-    ensures { IfOk result (λ n. (n ≤ length bytes.new) × (n ≡ length (take n bytes.new))) }
+    ensures { IfOk result (λ n. IsPrefixLen n bytes.new) }
 {
     match fs::open(rt, name) {
-        Ok(mut file) => Ok(read_full(&mut file, bytes)),
+        Ok(mut file) => Ok(inputs::read_full(&mut file, bytes)),
         Err(error) => {
             eprintln!(rt; "{name}: {error}")?;
             Ok(0)
