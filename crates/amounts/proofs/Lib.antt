@@ -1,5 +1,6 @@
 pub mod Before
 pub mod Laws
+pub mod Points
 pub mod Powers
 pub mod Sayings
 pub mod Shape

@@ -212,14 +212,14 @@ module _ (f : ℕ → Bool) (site start end : ℕ → ℕ) (firsts lasts : List 
       let w = count_place f n m.other (omega (arith, G.counted, m.last)) in
       let i = v.0 in
       let j = w.0 in
-      let span-i = span_of i v.1 v.2 in
-      let span-j = span_of j w.1 w.2 in
-      let in-i = subst (λ (a : ℕ). Within firsts lasts a m.number) (sym v.3) m.in_one in
-      let in-j = subst (λ (a : ℕ). Within firsts lasts a m.number) (sym w.3) m.in_other in
-      let fit-i = fit i v.1 v.2 in
-      let fit-j = fit j w.1 w.2 in
-      let tell-i = day_tells (site i) (start i) (end i) m.number fit-i.1 fit-i.2 (omega (arith, span-i.1, in-i.0)) (omega (arith, span-i.2, in-i.1)) in
-      let tell-j = day_tells (site j) (start j) (end j) m.number fit-j.1 fit-j.2 (omega (arith, span-j.1, in-j.0)) (omega (arith, span-j.2, in-j.1)) in
+      let span_i = span_of i v.1 v.2 in
+      let span_j = span_of j w.1 w.2 in
+      let in_i = subst (λ (a : ℕ). Within firsts lasts a m.number) (sym v.3) m.in_one in
+      let in_j = subst (λ (a : ℕ). Within firsts lasts a m.number) (sym w.3) m.in_other in
+      let fit_i = fit i v.1 v.2 in
+      let fit_j = fit j w.1 w.2 in
+      let tell_i = day_tells (site i) (start i) (end i) m.number fit_i.1 fit_i.2 (omega (arith, span_i.1, in_i.0)) (omega (arith, span_i.2, in_i.1)) in
+      let tell_j = day_tells (site j) (start j) (end j) m.number fit_j.1 fit_j.2 (omega (arith, span_j.1, in_j.0)) (omega (arith, span_j.2, in_j.1)) in
       record {
         one = i;
         other = j;
@@ -228,7 +228,7 @@ module _ (f : ℕ → Bool) (site start end : ℕ → ℕ) (firsts lasts : List 
         last = w.1;
         holds = v.2;
         also = w.2;
-        same = spread_tells (site i) (site j) fit-i.0 fit-j.0 (sym tell-i.0 ∙ tell-j.0);
-        in_one = (tell-i.1, tell-i.2);
-        in_other = (tell-j.1, tell-j.2);
+        same = spread_tells (site i) (site j) fit_i.0 fit_j.0 (sym tell_i.0 ∙ tell_j.0);
+        in_one = (tell_i.1, tell_i.2);
+        in_other = (tell_j.1, tell_j.2);
       }

@@ -44,6 +44,7 @@ use Rattle.lists.proofs.Reflected.{both_of, denied, empty_is}
 use Rattle.fields.proofs.Read.{read_value}
 use Rattle.bill_files.specs.Accepted.{Bill, number_or_zero, number_or_none, day_or_zero, sender_in, id_in, is_period, is_bill, bill_in, bills_in, bill_file}
 use Rattle.lists.specs.Selections.{filter}
+use Rattle.lists.proofs.Selections.{second_of_lem}
 use Rattle.bill_files.specs.InsideFits.{BillFits, FileFits, Distinct}
 use Rattle.bill_files.specs.Passing.{type_at, id_at, Passing}
 
@@ -92,10 +93,6 @@ one_of m n false = inr refl
 -- what the tables say of the field after k others of the type t: it is there, it is mandatory, and it isn't FH's Parent ID
 unfoldable pub is_required : ℕ → ℕ → Bool
 is_required t k = ltb k (field_count t) && (is_mandatory t k && not (eqb t FH && eqb k 1))
-
-or-false : (a b : Bool) → a ≡ false → (a || b) ≡ true → b ≡ true
-or-false true b e q = absurd (true≢false e)
-or-false false b e q = q
 
 -- every type has its Record ID as field 1, which is mandatory
 is_id_type : FieldType → Bool
@@ -222,7 +219,7 @@ module _ {retailer : ℕ} {distributors : List ℕ} {lines : List (List ℕ)} (p
   required_fits : (i : ℕ) → i < length lines → (k : ℕ) → is_required (type_at lines i) k ≡ true
       → fits_filled (field_type (type_at lines i) k) (field (k + 1) (line_at lines i)) ≡ true
   unfolding is_required fits_type
-  required_fits i h k e = or-false (eqb (length text) 0) _ (ne_eqb (length text) 0 (λ z. filled ((empty_is text).0 z))) (p.fitting i h k inside)
+  required_fits i h k e = second_of_lem (eqb (length text) 0) _ (ne_eqb (length text) 0 (λ z. filled ((empty_is text).0 z))) (p.fitting i h k inside)
     where
       line : List ℕ
       line = line_at lines i

@@ -119,7 +119,7 @@ place_counts : (place g : ℕ) (b : Bool) → eqb (cond b place 0) (suc g) ≡ (
 place_counts place g true = refl
 place_counts place g false = none_next g
 
-one_counts : (b : Bool) → eqb (cond b 1 0) 1 ≡ b
+pub one_counts : (b : Bool) → eqb (cond b 1 0) 1 ≡ b
 one_counts true = refl
 one_counts false = refl
 

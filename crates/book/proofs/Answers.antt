@@ -41,7 +41,7 @@ module _ (i : Input) where
       → Leaves i.run run' r (ledger_after i) → held ≡ count is_held (drop i.used (ledger_after i)) → Meets i answer run'
   unfolding book_result
   accepts n r held answer run' says e fits n-is r-is left holds =
-      let yes-booked : is_booked i ≡ true = eq-eqb (book_refusal i).number 0 e in
+      let yes_booked : is_booked i ≡ true = eq-eqb (book_refusal i).number 0 e in
       let short : length (ledger_of i) ≡ i.used = length-take-le i.used i.run fits in
       let long : length (ledger_after i) ≡ r = length_booked (ledger_of i) (file_of i) ∙ omega (arith, short, n-is, r-is) in
       let many : 1 + n ≡ length (added_by i) = omega (arith, n-is, added_count (ledger_of i) (file_of i)) in
@@ -50,11 +50,11 @@ module _ (i : Input) where
         answers =
             says
             ∙ (λ t. accepted_result (many t) (few t))
-            ∙ sym (ap (λ (t : Bool). cond t (accepted_result (length (added_by i)) (count is_held (added_by i))) (refused_result (book_refusal i).number (book_refusal i).line)) yes-booked);
+            ∙ sym (ap (λ (t : Bool). cond t (accepted_result (length (added_by i)) (count is_held (added_by i))) (refused_result (book_refusal i).number (book_refusal i).line)) yes_booked);
         leaves_run =
             sym (take-append-drop r run')
             ∙ (λ t. left.entries t ++ left.past t)
             ∙ ap (λ (m : ℕ). ledger_after i ++ drop m i.run) (sym long)
-            ∙ sym (run_accepted i yes-booked);
-        leaves_used = omega (arith, r-is, ap (λ (r : Result). r.added) says) ∙ sym long ∙ sym (used_accepted i yes-booked);
+            ∙ sym (run_accepted i yes_booked);
+        leaves_used = omega (arith, r-is, ap (λ (r : Result). r.added) says) ∙ sym long ∙ sym (used_accepted i yes_booked);
       }

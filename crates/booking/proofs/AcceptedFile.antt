@@ -9,12 +9,12 @@ use mathlib.Core.Option.{Option, none, some}
 use mathlib.Core.List.{List, [], ◌∷◌, map}
 use Prim.Native.Nat.{ℕ, suc, ◌^◌, ◌≤◌, ◌<◌}
 use native.Mathlib.Omega.{arith}
-use borrow.Author.Tests.{ne_eqb}
+use borrow.Author.Tests.{ne_eqb, not-false}
 use lib.Dec.{T, eqb, eqb→eq}
 use lib.ListN.{length, get_or}
 use Rattle.lists.specs.Selections.{filter, any}
 use Rattle.lists.specs.InsideSelections.{all, distinct}
-use Rattle.lists.proofs.Selections.{from_true, not-false, and_both, and_right, cases, neither}
+use Rattle.lists.proofs.Selections.{from_true, and_both, and_right, cases, neither}
 use Rattle.records.specs.Text.{lines_of}
 use Rattle.bill_files.specs.Accepted.{Bill, BillFile, bill_file, bills_in, id_in}
 use Rattle.bill_files.specs.InsideFits.{BillFits, FileFits, Distinct}

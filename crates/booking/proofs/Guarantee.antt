@@ -17,7 +17,7 @@ use Rattle.booking.specs.InsidePasses.{Passes}
 use Rattle.booking.specs.Guarantee.{Call, Calls, is_accepted, accepted_files, booking, names, Status, held, live, cancelling, Standing, is_held_at_turn, turns, archive, status_at, Guarantee, Guaranteed}
 use Rattle.booking.proofs.AcceptedFile.{accepted_passes}
 use Rattle.booking.proofs.Turns.{bills_turns, Once}
-use Rattle.booking.proofs.Statuses.{apart_none, apart_archive, apart_days, status_exactly, status_cancel}
+use Rattle.booking.proofs.Statuses.{apart_none, apart_turns, apart_days, status_exactly, status_cancel}
 use Rattle.booking.proofs.Stored.{live_entries, held_entries}
 use Rattle.booking.proofs.Named.{named_once, live_and_held}
 use Rattle.booking.proofs.Run.{Accepted, Agrees, empty_agrees, files_agree, files_names_one}
@@ -49,7 +49,7 @@ module _ (places : ℕ) (files : List BillFile) (ledger : List Entry) (accepted 
       let v = agree in
       record {
         order = bills_turns [] (booking files);
-        apart = apart_days (archive [] files) (apart_archive [] (booking files) apart_none);
+        apart = apart_days (archive [] files) (apart_turns [] (booking files) apart_none);
         names_one = files_names_one [] places files [] ledger empty_agrees accepted;
         named_once =
             λ b. subst (λ (l : List Bill). count (λ c. names c b) l ≤ 1) (bills_turns [] (booking files)) (named_once (archive [] files) v.once v.pair_off b);
@@ -88,8 +88,8 @@ calls_accepted places run run' used used' (c ∷ calls) size (next, next-used, s
     let sized : length i.run ≡ places = ap length step.lent_run ∙ size in
     let passes = accepted_passes i in
     let answer = answer_accepted i c.answer met.answers in
-    let length-next = ap length met.leaves_run ∙ length_run_after i passes ∙ sized in
-    let later = calls_accepted places next run' next-used used' calls length-next rest in
+    let length_next = ap length met.leaves_run ∙ length_run_after i passes ∙ sized in
+    let later = calls_accepted places next run' next-used used' calls length_next rest in
     let ledger : take next-used next ≡ take (used_after i) (run_after i) = λ t. take (met.leaves_used t) (met.leaves_run t) in
     let from : List Entry → Type 0 = λ l. Accepted places l (accepted_files calls) (take used' run') in
     subst (λ (l : List Entry). Accepted places l (accepted_files (c ∷ calls)) (take used' run')) lent

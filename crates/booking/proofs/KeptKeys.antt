@@ -5,27 +5,18 @@ use mathlib.Core.Bool.{Bool, true, false, not, cond}
 use mathlib.Core.List.{List, [], ◌∷◌, ◌++◌, map}
 use Prim.Native.Nat.{ℕ, suc, ◌+◌, ◌≤◌, ◌<◌}
 use native.Mathlib.Omega.{arith}
-use borrow.Author.Tests.{eqb-true, eq-eqb}
-use lib.Dec.{T, eqb}
+use lib.Dec.{T}
 use lib.ListN.{length}
 use Rattle.lists.specs.Selections.{filter, count}
 use Rattle.lists.specs.InsideSelections.{all, distinct}
-use Rattle.lists.proofs.Selections.{cases, both, is_false, and_left, and_right, and_both, count_append, count_map, count_split, count_none, distinct_count}
+use Rattle.lists.proofs.Selections.{cases, both, is_false, count_append, count_map, count_split, count_none, distinct_count}
 use Rattle.bill_files.specs.Accepted.{Bill}
 use Rattle.entries.specs.declared.Entry.{Entry}
 use Rattle.entries.specs.Entries.{blank, entry_of}
 use Rattle.booking.specs.Booking.{names_entry, cancel_named, is_stored}
 use Rattle.booking.specs.InsidePasses.{Key, same_key, key_of, entry_key}
 use Rattle.booking.proofs.KeptPlaces.{no_place}
-
-same_key_lem : (k m : Key) → same_key k m ≡ true → k ≡ m
-same_key_lem k m e =
-    let a = eqb-true k.0 m.0 (and_left (eqb k.0 m.0) (eqb k.1 m.1) e) in
-    let b = eqb-true k.1 m.1 (and_right (eqb k.0 m.0) (eqb k.1 m.1) e) in
-    λ i. (a i, b i)
-
-key_same : (k m : Key) → k.0 ≡ m.0 → k.1 ≡ m.1 → same_key k m ≡ true
-key_same k m a b = and_both (eqb k.0 m.0) (eqb k.1 m.1) (eq-eqb k.0 m.0 a) (eq-eqb k.1 m.1 b)
+use Rattle.booking.proofs.Turns.{same_key_lem, key_same}
 
 -- how many entries have a key, and how often it stands in a list
 abbrev having : Key → List Entry → ℕ
@@ -55,14 +46,14 @@ fresh_keys l ks d u k h =
     omega arith
   where
     alike : (m n : Key) → m ≡ k → n ≡ k → same_key m n ≡ true
-    alike m n a b = let e = a ∙ sym b in key_same m n (ap (λ (q : Key). q.0) e) (ap (λ (q : Key). q.1) e)
+    alike m n a b = key_same m n (a ∙ sym b)
 
 -- ---- nothing in the ledger has the first of them
 pub fresh_unlike : (l : List Entry) (k : Key) (ks : List Key) → Fresh l (k ∷ ks) → (i : ℕ) → i < length l → (entry_of l i).sender ≡ k.0 → (entry_of l i).id ≡ k.1 → ⊥
-fresh_unlike l k ks f i h a b = no_place blank (λ e. same_key (entry_key e) k) l none i h (key_same (entry_key (entry_of l i)) k a b)
+fresh_unlike l k ks f i h a b = no_place blank (λ e. same_key (entry_key e) k) l none i h (key_same (entry_key (entry_of l i)) k (λ j. (a j, b j)))
   where
     here : among k (k ∷ ks) ≡ suc (among k ks)
-    here = rw (key_same k k refl refl)
+    here = rw (key_same k k refl)
 
     none : having k l ≡ 0
     none = let g = f k (omega (arith, here)) in omega (arith, here)

@@ -91,16 +91,13 @@ apart_original bs b a =
     go false false e p = alone
     go false true e p = distinct_snoc (λ p q. shares_site_day q p) (live_periods bs) b a (unheld_apart bs b e p)
 
-apart_turns : (bs : List Standing) (rest : List Bill) → Apart bs → Apart (turns bs rest)
+pub apart_turns : (bs : List Standing) (rest : List Bill) → Apart bs → Apart (turns bs rest)
 apart_turns bs [] a = a
 apart_turns bs (b ∷ rest) a =
     apart_turns (turn bs b) rest
     (cases b.cancel
     (λ e. apart_cancel bs b e a)
     (λ e. subst Apart (sym (turn_original bs b e)) (apart_original bs b a)))
-
-pub apart_archive : (start : List Standing) (booked : List Bill) → Apart start → Apart (turns start booked)
-apart_archive = apart_turns
 
 pub apart_none : Apart []
 unfolding Apart

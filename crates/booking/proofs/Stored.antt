@@ -5,10 +5,10 @@ use mathlib.Core.Bool.{Bool, true, false, not, ◌&&◌, ◌||◌, cond, and_ass
 use mathlib.Core.List.{List, [], ◌∷◌, ◌++◌, map, map-map, append-nil}
 use Prim.Native.Nat.{ℕ, suc}
 use lib.Dec.{T, eqb, eqb→eq, eqb-zero-suc}
-use borrow.Author.Tests.{eqb-true, eqb-false, eq-eqb}
+use borrow.Author.Tests.{eqb-true, eqb-false, eq-eqb, not-false}
 use Rattle.lists.specs.Selections.{filter, any}
 use Rattle.lists.specs.InsideSelections.{all}
-use Rattle.lists.proofs.Selections.{is_true, from_true, both, is_false, not-false, and_left, cases, map_append, filter_map, any_map, map_filter_ext, filter_append, filter_ext, any_ext, filter_under, any_under, any_filter, all_filter}
+use Rattle.lists.proofs.Selections.{is_true, from_true, both, is_false, and_left, cases, map_append, filter_map, any_map, map_filter_ext, filter_append, filter_ext, any_ext, filter_under, any_under, any_filter, all_filter}
 use Rattle.calendar.specs.Periods.{shares_day}
 use Rattle.calendar.proofs.Periods.{shares_day_symmetric}
 use Rattle.bill_files.specs.Accepted.{Bill, BillFile}

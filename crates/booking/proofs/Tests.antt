@@ -86,13 +86,13 @@ unstored_key places l file k p e = none_passes (λ x. is_stored l x.0 x.1) (keys
 pub once_booked : (places : ℕ) (l : List Entry) (bs : List Standing) (file : BillFile) → Stores l bs → Passes places l file → Once (bills bs)
     → Once (bills bs ++ (cancels file ++ originals file))
 once_booked places l bs file t p o k =
-    let all-keys = count_append (has k) (bills bs) (cancels file ++ originals file) in
+    let all_keys = count_append (has k) (bills bs) (cancels file ++ originals file) in
     let order = count_append (has k) (cancels file) (originals file) in
     let parts = count_split (has k) (λ b. b.cancel) file.bills in
     let mapped = count_map (λ x. same_key x k) key_of file.bills in
-    let in-file : count (λ x. same_key x k) (keys file) ≤ 1 = key_once (keys file) k p.keys_once in
+    let in_file : count (λ x. same_key x k) (keys file) ≤ 1 = key_once (keys file) k p.keys_once in
     let before = o k in
-    let in-bills : count (λ x. same_key x k) (map key_of file.bills) ≤ count (λ x. same_key x k) (keys file) =
+    let in_bills : count (λ x. same_key x k) (map key_of file.bills) ≤ count (λ x. same_key x k) (keys file) =
     more (same_key (file.sender, file.record_id) k) (count (λ x. same_key x k) (map key_of file.bills)) in
     cases (any (λ x. same_key x k) (keys file))
     (λ e.

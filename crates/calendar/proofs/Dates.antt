@@ -171,9 +171,9 @@ one_date a b n p q =
     let h = t.0 in
     let month : month_of a.year a.month ≡ month_of b.year b.month = same_month _ _ a.day b.day g.day_low g.day_high h.day_low h.day_high (s.1 ∙ sym t.1) in
     let year : a.year ≡ b.year = omega arith in
-    let month-of-year : a.month ≡ b.month = omega arith in
+    let month_of_year : a.month ≡ b.month = omega arith in
     let day : a.day ≡ b.day = omega (arith, ap first_day month) in
-    λ i. record { year = year i; month = month-of-year i; day = day i }
+    λ i. record { year = year i; month = month_of_year i; day = day i }
 
 pub each_once : (a : Date) (n : ℕ) → (day_of_date a ≡ At n) ↔ ((a ≡ date_after n) × (n ≤ 36524))
 each_once a n = (

@@ -95,7 +95,7 @@ rows_end {room} {lines} {i} {words} r all few column h =
     (λ k l. number k (omega (arith, l, long)))
   where
     long : length (column_at room column (length lines) words) ≡ length lines
-    long = length-take-le (length lines) (drop (column * room) words) (rw length-drop (let in-room = column_inside room column h in omega (arith, all, r.size, in-room)))
+    long = length-take-le (length lines) (drop (column * room) words) (rw length-drop (let in_room = column_inside room column h in omega (arith, all, r.size, in_room)))
 
     number : (k : ℕ) → k < length lines → get_or (column_at room column (length lines) words) k 0 ≡ get_or (map (number_in column) lines) k 0
     number k l =

@@ -6,16 +6,15 @@
 -- Assumes nothing.
 use mathlib.Core.Path.{◌≡◌, refl, sym, ◌∙◌, ap}
 use mathlib.Core.List.{List, [], ◌∷◌}
-use mathlib.Core.Bool.{Bool, true, false, true≢false, cond, ◌||◌, or-true}
+use mathlib.Core.Bool.{Bool, true, false, true≢false, cond, ◌||◌}
 use Prim.Native.Nat.{ℕ, ◌^◌, ◌≤◌, ◌<◌}
 use native.Mathlib.Nat.{sub-zero}
 use native.Mathlib.Omega.{arith}
-use borrow.Author.Tests.{eqb-true, eqb-false, ne_eqb, leb-true, lt-leb, not-true}
+use borrow.Author.Tests.{eqb-true, eqb-false, leb-true, lt-leb, not-true}
 use lib.Dec.{eqb, leb}
 use lib.IntN.{pos}
 use lib.ListN.{length, get_or, take}
 use lib.Seq.{take-length}
-use Rattle.lists.specs.First.{first_where}
 use Rattle.lists.proofs.Reflected.{empty_is}
 use Rattle.digits.specs.Digits.{is_digit, all_digits, number_of, digits_of, fixed_digits_of}
 use Rattle.digits.specs.declared.Number.TheVariants.{Value}
@@ -25,7 +24,7 @@ use Rattle.calendar.specs.declared.DateTime.TheVariants.{Second, NotADateTime}
 use Rattle.calendar.specs.Calendar.{date_time_of}
 use Rattle.calendar.proofs.Dates.{date_time_digits}
 use Rattle.amounts.specs.declared.Amount.TheVariants.{Value as Units}
-use Rattle.amounts.specs.Amounts.{point_of, whole_part, amount_of}
+use Rattle.amounts.specs.Amounts.{whole_part, amount_of}
 use Rattle.amounts.proofs.Laws.{amount_read}
 use Rattle.amounts.proofs.Shape.{magnitude_whole}
 use Rattle.amounts.proofs.Signs.{amount_plain}
@@ -33,41 +32,27 @@ use Rattle.fields.specs.declared.FieldType.{FieldType}
 use Rattle.fields.specs.declared.FieldType.TheVariants.{RecordId, Digits, Number as Num, DateTime}
 use Rattle.fields.specs.Fields.{is_moment, fits_filled, fits_type}
 use Rattle.fields.proofs.Read.{read_value}
+use Rattle.fields.proofs.Fits.{fits_empty, fits_filled_lem}
 use Rattle.writing.specs.Decimals.{digits_in, plain_digits}
 use Rattle.writing.proofs.Numbers.{digits_in_length}
 use Rattle.writing.proofs.ReadBack.{digits_in_all, digits_in_number, read_fixed, read_plain, digits_again, plain_again}
 use Rattle.dispute_lines.specs.Again.{id_again, fixed_again, lacks_leading_zeros}
 use Rattle.dispute_lines.specs.Line.{shown_id}
+use Rattle.amounts.proofs.Points.{no_point_lem}
 
 -- ---- what is written fits its type
-pub filled_fits : (t : FieldType) (s : List ℕ) → fits_filled t s ≡ true → fits_type t s ≡ true
-unfolding fits_type
-filled_fits t s e = rw e (or-true (eqb (length s) 0))
-
-pub empty_fits : (t : FieldType) → fits_type t [] ≡ true
-unfolding fits_type
-empty_fits t = refl
-
 pub id_fits : (n : ℕ) → n < 10 ^ 15 → fits_type RecordId (plain_digits n) ≡ true
-id_fits n h = filled_fits RecordId (plain_digits n) (rw (read_plain n h))
+id_fits n h = fits_filled_lem RecordId (plain_digits n) (rw (read_plain n h))
 
 pub fixed_fits : (w n : ℕ) → 1 ≤ w → w ≤ 15 → n < 10 ^ w → fits_type (Digits w) (digits_in w n) ≡ true
-fixed_fits w n l u h = filled_fits (Digits w) (digits_in w n) (rw (read_fixed w n l u h))
+fixed_fits w n l u h = fits_filled_lem (Digits w) (digits_in w n) (rw (read_fixed w n l u h))
 
 pub shown_fits : (b : Bool) (n : ℕ) → n < 10 ^ 15 → fits_type RecordId (shown_id b n) ≡ true
 unfolding shown_id
 shown_fits true n h = id_fits n h
-shown_fits false n h = empty_fits RecordId
+shown_fits false n h = fits_empty RecordId
 
 -- ---- a code: digits without a point or a minus
-digits_point : (s : List ℕ) → all_digits s ≡ true → point_of s ≡ length s
-unfolding first_where all_digits
-digits_point [] d = refl
-digits_point (b ∷ s) d =
-    let e = both_true (is_digit b) (all_digits s) d in
-    let r = both_true (leb 48 b) (leb b 57) e.0 in
-    rw (ne_eqb b 46 (λ q. omega (arith, leb-true 48 b r.0)), digits_point s e.1)
-
 digits_bare : (s : List ℕ) → all_digits s ≡ true → get_or s 0 0 ≡ 45 → ⊥
 unfolding all_digits
 digits_bare [] d q = omega arith
@@ -81,14 +66,14 @@ module _ (w n : ℕ) (l : 1 ≤ w) (u : w ≤ 15) (h : n < 10 ^ w) where
       let t = digits_in w n in
       let d = digits_in_all w n in
       let size = digits_in_length w n in
-      let point = digits_point t d in
+      let point = no_point_lem t d in
       let whole : whole_part t ≡ t = ap (λ (k : ℕ). take k t) point ∙ take-length t in
       let says : digits_of (whole_part t) ≡ Value n = ap digits_of whole ∙ digits_are t (omega arith) (omega arith) d ∙ ap Value (digits_in_number w n h) in
       amount_plain w 0 t (omega arith) u (Value n) (digits_bare t d)
       (rw sub-zero (magnitude_whole w 0 t (omega arith) (omega arith) n says (omega arith) ∙ ap Value (omega arith)))
 
   pub code_fits : fits_type (Num w 0) (digits_in w n) ≡ true
-  code_fits = filled_fits (Num w 0) (digits_in w n) (amount_read w 0 (digits_in w n) (pos n) (omega (arith, digits_in_length w n)) code_says).number
+  code_fits = fits_filled_lem (Num w 0) (digits_in w n) (amount_read w 0 (digits_in w n) (pos n) (omega (arith, digits_in_length w n)) code_says).number
 
 -- ---- a date time
 pub moment_digits : (s : List ℕ) → is_moment (date_time_of s) ≡ true → (length s ≡ 14) × (all_digits s ≡ true)

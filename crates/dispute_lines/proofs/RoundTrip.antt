@@ -22,6 +22,7 @@ use Rattle.digits.proofs.Laws.{both_true}
 use Rattle.calendar.specs.Calendar.{date_time_of}
 use Rattle.fields.specs.declared.FieldType.TheVariants.{RecordId, DateTime}
 use Rattle.fields.specs.Fields.{is_moment}
+use Rattle.fields.proofs.Fits.{fits_empty, fits_filled_lem}
 use Rattle.records.specs.Text.{lines_of, fields_of}
 use Rattle.records.specs.Records.{record_fields}
 use Rattle.format.specs.Format.{is_printable, line_at}
@@ -34,7 +35,7 @@ use Rattle.dispute_lines.specs.declared.Dispute.{Dispute}
 use Rattle.dispute_lines.specs.Again.{fields_again, lacks_leading_zeros, ids_lack_leading_zeros}
 use Rattle.dispute_lines.specs.Line.{shown_id, dispute_fields, dispute_line}
 use Rattle.dispute_lines.specs.Reading.{Reading, reading, field_in, is_no_dispute, is_one_line, fits_dispute, read_fields, read_line, read_dispute}
-use Rattle.dispute_lines.proofs.Fields.{filled_fits, empty_fits, id_fits, fixed_fits, shown_fits, code_fits, moment_digits, id_again_lem, fixed_again_lem, moment_again}
+use Rattle.dispute_lines.proofs.Fields.{id_fits, fixed_fits, shown_fits, code_fits, moment_digits, id_again_lem, fixed_again_lem, moment_again}
 
 -- ---- bytes that test 2 allows in a line
 printable : List ℕ → Bool
@@ -136,11 +137,11 @@ module _ (d : Dispute) (created : List ℕ) (transaction : d.transaction < 10 ^ 
         id_fits d.transaction transaction,
         fixed_fits 9 d.retailer (omega arith) (omega arith) retailer,
         fixed_fits 4 d.distributor (omega arith) (omega arith) distributor,
-        filled_fits DateTime created moment,
+        fits_filled_lem DateTime created moment,
         id_fits d.file file,
         fixed_fits 13 d.site (omega arith) (omega arith) site,
         shown_fits (not d.once) d.id id,
-        empty_fits RecordId,
+        fits_empty RecordId,
         shown_fits d.once d.id id,
         code_fits 4 d.code (omega arith) (omega arith) code,
       )

@@ -26,6 +26,7 @@ use Rattle.bill_files.specs.Accepted.{number_or_zero, number_or_none, day_or_zer
 use Rattle.booking.specs.Booking.{id_or_zero}
 use Rattle.file_bills.specs.InsideBills.{source_entry, reference_in_column}
 use Rattle.file_bills.specs.InsideReading.{entry_from}
+use Rattle.bill_files.proofs.Sums.{one_counts}
 
 -- ---- numbers that stand as themselves and one
 less : (n : ℕ) → n + 1 - 1 ≡ n
@@ -46,10 +47,6 @@ reference_less Other = refl
 reference_kept : (x : Number) → number_in_column x ≡ reference_in_column (number_or_none x)
 reference_kept (Value n) = refl
 reference_kept Other = refl
-
-cancel_flag : (t : Bool) → eqb (cond t 1 0) 1 ≡ t
-cancel_flag true = refl
-cancel_flag false = refl
 
 cancel_state : (t : Bool) (x : ℕ) → cond t x 0 ≡ cond (eqb (cond t 4 1) 4) x 0
 cancel_state true x = refl
@@ -87,7 +84,7 @@ end_at line = day_less (day_of (field_in end_day line))
 
 cancel_at : (line : List ℕ) → eqb (number_in 7 line) 1 ≡ same_bytes (field_in cancel line) (written "Y")
 unfolding number_in in_column
-cancel_at line = cancel_flag (same_bytes (field_in cancel line) (written "Y"))
+cancel_at line = one_counts (same_bytes (field_in cancel line) (written "Y"))
 
 reference_at : (line : List ℕ) → number_in 4 line - 1 ≡ id_or_zero (number_or_none (digits_of (field_in reference line)))
 unfolding number_in in_column

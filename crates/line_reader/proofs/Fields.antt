@@ -7,14 +7,13 @@
 -- Assumes nothing.
 use mathlib.Core.Path.{◌≡◌, refl, sym, ◌∙◌, ap}
 use mathlib.Core.List.{List, [], ◌∷◌}
-use mathlib.Core.Bool.{Bool, true, false}
+use mathlib.Core.Bool.{true}
 use Prim.Native.Nat.{ℕ, ◌+◌, ◌-◌, ◌*◌, ◌≤◌, ◌<◌, zero-le}
 use native.Mathlib.Nat.{add-zero}
 use native.Mathlib.Omega.{arith}
 use native.Mathlib.Decide.{dec_lt}
 use borrow.Author.Count.{below_more}
 use borrow.Author.Tests.{le-leb, lt-leb}
-use lib.Dec.{T}
 use lib.ListN.{length, get_or, take, drop, set, length-drop}
 use lib.Seq.{drop-drop, take-take, get_or-drop, get_or-set_same, get_or-set_other}
 use Rattle.lists.specs.First.{is_byte}
@@ -34,6 +33,7 @@ use Rattle.readings.specs.InsideLeadingBytes.{field_end, leading_field}
 use Rattle.readings.specs.InsideReadings.{is_narrow, FieldRead}
 use Rattle.codes_and_rows.specs.InsideFields.{FieldFits, field_after}
 use Rattle.line_reader.specs.InsideLineReader.{rest_at, ReadTo}
+use Rattle.lists.proofs.Selections.{is_true}
 
 pub rest_none : (file : List ℕ) (a e : ℕ) → e < a → rest_at file a e ≡ []
 unfolding rest_at
@@ -117,10 +117,6 @@ read_at file a e len low high q f is =
     record { low = omega arith; high = omega (arith, end_inside file a e low high, q); same = ap (λ (m : ℕ). part file a (a + m)) q ∙ sym (field_part file a e low high) ∙ sym is }
 
 -- ---- the types of the tables
-is_true : (b : Bool) → T b → b ≡ true
-is_true true t = refl
-is_true false t = absurd t
-
 module _ (type k : ℕ) (known : type < 9) (small : k < 19) {codes : List ℕ} (lent : codes ≡ joined code_rows) where
   pub code_narrow : is_narrow (type_of_code (get_or codes (type * 19 + k) 0)) ≡ true
   unfolding is_narrow type_of_code

@@ -184,7 +184,7 @@ pub line_stored : {lines : List (List ℕ)} {charges₀ usages₀ : List ℕ} {i
     → RowStored (length charges) words i (column_numbers type numbers) 8 after → charges' ≡ set charges i (field_number type numbers charge) → usages' ≡ set usages i (field_number type numbers usage)
     → Reading lines charges₀ usages₀ (i + 1) after charges' usages'
 line_stored {lines} {i = i} r small space line stored p q =
-    let record-read = line.read in
-    let printable = printable_line (line_at lines i) record-read.printable in
-    rw (p, q) (reading_more r _ _ small space stored (numbers_same record-read.says record-read.known printable record-read.named)
-    (charge_same record-read.says record-read.known printable record-read.named) (usage_same record-read.says record-read.known printable record-read.named))
+    let record_read = line.read in
+    let printable = printable_line (line_at lines i) record_read.printable in
+    rw (p, q) (reading_more r _ _ small space stored (numbers_same record_read.says record_read.known printable record_read.named)
+    (charge_same record_read.says record_read.known printable record_read.named) (usage_same record_read.says record_read.known printable record_read.named))

@@ -18,7 +18,7 @@ use borrow.Author.Tests.{le-leb, lt-leb, ne_eqb, eq-eqb}
 use lib.Dec.{eqb, leb}
 use lib.ListN.{length, get_or, get_or-eq_default}
 use Rattle.lists.specs.Below.{first_below, some_below}
-use Rattle.lists.proofs.Selections.{neither}
+use Rattle.lists.proofs.Selections.{neither, either}
 use Rattle.lists.proofs.Below.{first_holds, first_least, first_is, none_below, none_is_end, some_is, none_some}
 use Rattle.records.specs.Text.{fields_of}
 use Rattle.tables.specs.Types.{type_named}
@@ -36,10 +36,6 @@ or_first : (a b : Bool) → a ≡ true → a || b ≡ true
 or_first true b e = refl
 or_first false b e = absurd (false≢true e)
 
-or_second : (a b : Bool) → b ≡ true → a || b ≡ true
-or_second true b e = refl
-or_second false b e = e
-
 module _ (line : List ℕ) where
   unread_format : unformatted line ≡ true → unread line ≡ true
   unfolding unread
@@ -53,19 +49,19 @@ module _ (line : List ℕ) where
   unfolding unformatted
   unread_type h =
       unread_format
-      (or_second (some_below (λ (i : ℕ). not (is_printable (get_or line i 0))) (length line)) (leb 9 (type_in line) || not (eqb (length (record_fields line)) (field_count (type_in line))))
+      (either (some_below (λ (i : ℕ). not (is_printable (get_or line i 0))) (length line)) (leb 9 (type_in line) || not (eqb (length (record_fields line)) (field_count (type_in line))))
       (or_first (leb 9 (type_in line)) (not (eqb (length (record_fields line)) (field_count (type_in line)))) (le-leb 9 (type_in line) h)))
 
   unread_length : (length (record_fields line) ≡ field_count (type_in line) → ⊥) → unread line ≡ true
   unfolding unformatted
   unread_length n =
       unread_format
-      (or_second (some_below (λ (i : ℕ). not (is_printable (get_or line i 0))) (length line)) (leb 9 (type_in line) || not (eqb (length (record_fields line)) (field_count (type_in line))))
-      (or_second (leb 9 (type_in line)) (not (eqb (length (record_fields line)) (field_count (type_in line)))) (ap not (ne_eqb _ _ n))))
+      (either (some_below (λ (i : ℕ). not (is_printable (get_or line i 0))) (length line)) (leb 9 (type_in line) || not (eqb (length (record_fields line)) (field_count (type_in line))))
+      (either (leb 9 (type_in line)) (not (eqb (length (record_fields line)) (field_count (type_in line)))) (ap not (ne_eqb _ _ n))))
 
   unread_unfit : (k : ℕ) → k < length (record_fields line) → unfit line k ≡ true → unread line ≡ true
   unfolding unread
-  unread_unfit k h e = or_second (unformatted line) (some_field unfit line) (some_is (unfit line) (length (record_fields line)) k h e)
+  unread_unfit k h e = either (unformatted line) (some_field unfit line) (some_is (unfit line) (length (record_fields line)) k h e)
 
   module _ (type : ℕ) (named : type ≡ type_named (field_after line 2)) where
     -- where the line has at most 24 fields its record has just these, and their type

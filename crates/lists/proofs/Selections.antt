@@ -43,10 +43,6 @@ pub is_false : (b : Bool) → T (not b) → b ≡ false
 is_false false t = refl
 is_false true t = elim t [ ]
 
-pub not-false : (b : Bool) → not b ≡ false → b ≡ true
-not-false true e = refl
-not-false false e = sym e
-
 pub neither : (a b : Bool) → (a || b) ≡ false → (a ≡ false) × (b ≡ false)
 neither true b e = (e, absurd (true≢false e))
 neither false b e = (refl, e)

@@ -15,8 +15,8 @@ use Rattle.readings.specs.declared.Run.{Run}
 use Rattle.readings.specs.InsideLeadingBytes.{field_end, leading_field, AllRead}
 use Rattle.readings.proofs.Ends.{field_length, end_ends, end_after, end_more, digits_before, same_byte, next_inside}
 use Rattle.readings.proofs.Runs.{run_longest}
-use Rattle.readings.proofs.Magnitudes.{not_point}
 use Rattle.lists.proofs.Selections.{second_of_lem}
+use Rattle.amounts.proofs.Points.{not_point}
 
 pub told_not : (b : Bool) → (b ≡ true → ⊥) → b ≡ false
 told_not true h = absurd (h refl)

@@ -1,33 +1,21 @@
 -- Laws of a field that was read.
---     fits_empty, fits_filled_lem, empty_says    what fits a type: the empty field, and one that isn't empty; what an empty field says
+--     empty_says                             what an empty field says
 --     field_read, empty_read                 a field that was read, and an empty one
 -- Assumes nothing.
-use Rattle.std.proofs.Common.{◌≡◌, ℕ, Bool, true, false, ◌||◌, eqb, List, [], length, take, sym, refl, ◌∙◌, subst, zero-le}
+use Rattle.std.proofs.Common.{◌≡◌, ℕ, true, List, [], take, sym, refl, ◌∙◌, subst, zero-le}
 use Rattle.digits.specs.Digits.{digits_of}
 use Rattle.calendar.specs.Calendar.{day_of}
 use Rattle.amounts.specs.Amounts.{amount_of}
 use Rattle.amounts.proofs.Sayings.{said_missing}
 use Rattle.fields.specs.declared.FieldType.{FieldType}
 use Rattle.fields.specs.declared.FieldType.TheVariants.{RecordId, Digits, Number, Date, DateTime, Char, Varchar}
-use Rattle.fields.specs.Fields.{fits_filled, fits_type}
+use Rattle.fields.specs.Fields.{fits_type}
+use Rattle.fields.proofs.Fits.{fits_empty}
 use Rattle.readings.specs.declared.Reading.{Reading}
 use Rattle.readings.specs.InsideLeadingBytes.{field_end, Ends}
 use Rattle.readings.proofs.Ends.{ends_there}
 use Rattle.readings.proofs.LeadingTexts.{packed_none}
 use Rattle.readings.specs.InsideReadings.{Says, FieldRead}
-
--- ---- what fits
-pub fits_empty : (t : FieldType) → fits_type t [] ≡ true
-unfolding fits_type
-fits_empty t = refl
-
-or-true : (a b : Bool) → b ≡ true → a || b ≡ true
-or-true true b e = refl
-or-true false b e = e
-
-pub fits_filled_lem : (t : FieldType) (s : List ℕ) → fits_filled t s ≡ true → fits_type t s ≡ true
-unfolding fits_type
-fits_filled_lem t s e = or-true (eqb (length s) 0) (fits_filled t s) e
 
 pub empty_says : (t : FieldType) → Says t [] 0
 unfolding Says digits_of day_of amount_of

@@ -16,6 +16,7 @@ use Rattle.calendar.specs.Calendar.{date_day, number_day, day_of}
 use Rattle.fields.specs.declared.FieldType.{FieldType}
 use Rattle.fields.specs.declared.FieldType.TheVariants.{RecordId, Digits, Date}
 use Rattle.fields.specs.Fields.{is_read, is_day, fits_filled, fits_type}
+use Rattle.fields.proofs.Fits.{fits_empty, fits_filled_lem}
 use Rattle.columns.specs.Columns.{number_in_column, day_in_column}
 use Rattle.readings.specs.declared.Run.{Run}
 use Rattle.readings.specs.declared.Reading.{Reading}
@@ -23,7 +24,7 @@ use Rattle.readings.specs.InsideLeadingBytes.{field_end, leading_field, Ends, Di
 use Rattle.readings.proofs.Ends.{field_length, ends_there, digits_before}
 use Rattle.readings.proofs.Runs.{run_bound}
 use Rattle.readings.specs.InsideReadings.{Says, FieldRead}
-use Rattle.readings.proofs.Fields.{fits_empty, fits_filled_lem, empty_says, field_read}
+use Rattle.readings.proofs.Fields.{empty_says, field_read}
 use Rattle.readings.proofs.Missed.{filled_not, fixed_id, fixed_length}
 use Rattle.lists.proofs.Selections.{second_of_lem}
 
@@ -116,9 +117,9 @@ module _ (s : List ℕ) where
       day : day_of (leading_field s) ≡ date_day (id.number - 1)
       unfolding day_of
       day =
-          let id-says = id_number s id as_id (number_some s id as_id other) in
-          let less : id.number - 1 ≡ id-says.0 = omega (arith, id-says.2) in
-          rw (eq-eqb (length (leading_field s)) 8 eight) (ap number_day id-says.1 ∙ sym (ap date_day less))
+          let id_says = id_number s id as_id (number_some s id as_id other) in
+          let less : id.number - 1 ≡ id_says.0 = omega (arith, id_says.2) in
+          rw (eq-eqb (length (leading_field s)) 8 eight) (ap number_day id_says.1 ∙ sym (ap date_day less))
 
       pub date_read : (r : Reading) (d : ℕ) → date_day (id.number - 1) ≡ At d → r.len ≡ 8 → r.number ≡ d + 1 → FieldRead Date s r
       unfolding Says

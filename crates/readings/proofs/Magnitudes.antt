@@ -2,10 +2,9 @@
 --     whole_below, whole_read    the digits before the point: their number is below a power of ten; they are the whole field
 --     places_below, places_read  the point after them and the digits after it: their number is below a power of ten; what was read
 -- Assumes nothing.
-use Rattle.std.proofs.Common.{◌≡◌, ℕ, zero, suc, ◌+◌, ◌-◌, ◌*◌, ◌^◌, ◌<◌, ◌≤◌, true, false, ◌&&◌, eqb, leb, List, [], ◌∷◌, length, get_or, take, drop, sym, refl, ap, ◌∙◌, subst, lt_of_lt_of_le, zero-mul, arith, length-drop, drop_of_length-le, length-take-le, take_all, get_or-take, take-take, take-add, drop_at, eq-eqb, ne_eqb, le-leb, leb-true}
+use Rattle.std.proofs.Common.{◌≡◌, ℕ, zero, suc, ◌+◌, ◌-◌, ◌*◌, ◌^◌, ◌<◌, ◌≤◌, true, List, [], ◌∷◌, length, get_or, take, drop, sym, ap, ◌∙◌, subst, lt_of_lt_of_le, zero-mul, arith, length-drop, drop_of_length-le, length-take-le, take_all, get_or-take, take-take, take-add, drop_at, eq-eqb, le-leb}
 use Rattle.lists.specs.First.{first_where}
-use Rattle.digits.specs.Digits.{is_digit, all_digits, followed_by, number_of}
-use Rattle.digits.proofs.Laws.{both_true}
+use Rattle.digits.specs.Digits.{all_digits, followed_by, number_of}
 use Rattle.amounts.specs.Amounts.{point_of, is_unsigned, units_of}
 use Rattle.amounts.proofs.Powers.{ten_mono}
 use Rattle.amounts.proofs.Shape.{whole_only, whole_and_places}
@@ -15,20 +14,9 @@ use Rattle.readings.specs.InsideLeadingBytes.{field_end, Ends, DigitsRead}
 use Rattle.readings.proofs.Ends.{ends_there, end_more, end_after, digits_before}
 use Rattle.readings.proofs.Runs.{run_bound}
 use Rattle.readings.specs.InsideAmountReadings.{WholeRead, MagnitudeRead}
+use Rattle.amounts.proofs.Points.{not_point, no_point_lem}
 
 -- ---- where the point stands
-pub not_point : (b : ℕ) (s : List ℕ) → is_digit b && all_digits s ≡ true → (eqb b 46 ≡ false) × (all_digits s ≡ true)
-not_point b s d =
-    let q = both_true (is_digit b) (all_digits s) d in
-    let low : 48 ≤ b = leb-true 48 b (both_true (leb 48 b) (leb b 57) q.0).0 in
-    (ne_eqb b 46 (λ e. omega arith), q.1)
-
--- digits alone have none
-no_point_lem : (t : List ℕ) → all_digits t ≡ true → point_of t ≡ length t
-unfolding all_digits first_where
-no_point_lem [] d = refl
-no_point_lem (b ∷ t) d = let q = not_point b t d in rw q.0 (ap suc (no_point_lem t q.1))
-
 -- digits before the place p, and a point there
 point_at : (t : List ℕ) (p : ℕ) → p < length t → all_digits (take p t) ≡ true → get_or t p 0 ≡ 46 → point_of t ≡ p
 unfolding all_digits first_where

@@ -14,11 +14,11 @@ use Rattle.digits.proofs.Laws.{digits_say}
 use Rattle.fields.specs.declared.FieldType.{FieldType}
 use Rattle.fields.specs.declared.FieldType.TheVariants.{RecordId, Digits, Char, Varchar}
 use Rattle.fields.specs.Fields.{is_read, fits_filled, fits_type}
+use Rattle.fields.proofs.Fits.{fits_filled_lem}
 use Rattle.readings.specs.declared.Run.{Run}
 use Rattle.readings.specs.InsideLeadingBytes.{field_end, leading_field, Ends, AllRead, TextRead}
 use Rattle.readings.proofs.Ends.{field_length, end_ends, digits_before}
 use Rattle.readings.proofs.Runs.{run_longest}
-use Rattle.readings.proofs.Fields.{fits_filled_lem}
 
 pub fits_or : (t : FieldType) (f : List ℕ) → fits_type t f ≡ true → (length f ≡ 0) ⊎ (fits_filled t f ≡ true)
 unfolding fits_type

@@ -10,12 +10,12 @@ use Rattle.amounts.specs.InsideSaid.{said_by}
 use Rattle.amounts.proofs.Signs.{number_narrow as no_room, amount_filled}
 use Rattle.fields.specs.declared.FieldType.TheVariants.{Number}
 use Rattle.fields.specs.Fields.{fits_type}
+use Rattle.fields.proofs.Fits.{fits_filled_lem}
 use Rattle.readings.specs.declared.Reading.{Reading}
 use Rattle.readings.specs.InsideLeadingBytes.{field_end, leading_field}
 use Rattle.readings.specs.InsideAmountReadings.{MagnitudeRead}
 use Rattle.readings.specs.InsideReadings.{Says, FieldRead}
 use Rattle.readings.proofs.Ends.{end_first}
-use Rattle.readings.proofs.Fields.{fits_filled_lem}
 use Rattle.readings.proofs.Missed.{filled_not}
 
 -- the byte b begins the field at the start of s, and the minus there has k bytes, one or none

@@ -6,12 +6,13 @@ use Rattle.std.proofs.Common.{◌≡◌, ℕ, ◌<◌, ◌≤◌, List, length, 
 use Rattle.lists.specs.First.{is_byte}
 use Rattle.lists.proofs.First.{first_le}
 use Rattle.fields.specs.declared.FieldType.TheVariants.{Char, Varchar}
+use Rattle.fields.proofs.Fits.{fits_filled_lem}
 use Rattle.readings.specs.declared.Run.{Run}
 use Rattle.readings.specs.declared.Reading.{Reading}
 use Rattle.readings.specs.InsideLeadingBytes.{field_end, Ends, TextRead}
 use Rattle.readings.proofs.Ends.{ends_there}
 use Rattle.readings.specs.InsideReadings.{Says, FieldRead}
-use Rattle.readings.proofs.Fields.{fits_filled_lem, field_read}
+use Rattle.readings.proofs.Fields.{field_read}
 
 module _ (s : List ℕ) (t : Run) (text : TextRead s t) (end : Ends s t.len) (width : ℕ) (r : Reading) (l : r.len ≡ t.len) (n : r.number ≡ t.value) where
   pub char_read : t.len ≡ width → FieldRead (Char width) s r

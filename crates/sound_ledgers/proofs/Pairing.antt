@@ -30,12 +30,12 @@ use Rattle.sound_ledgers.specs.InsidePairing.{Cancels, Marked, WithMarks, Paired
 module _ (es : List Entry) where
   pub cancels : (i j : ℕ) (c e : Entry) → c ≡ entry_of es i → e ≡ entry_of es j → j < i → c.state ≡ 4 → is_named c e ≡ true → opposite c e ≡ true → Cancels es i j
   cancels i j c e p q earlier state named undone =
-      let named-mean = (named_means (entry_of es i) (entry_of es j)).0 ((λ t. is_named (sym p t) (sym q t)) ∙ named) in
+      let named_mean = (named_means (entry_of es i) (entry_of es j)).0 ((λ t. is_named (sym p t) (sym q t)) ∙ named) in
       record {
         earlier = earlier;
         cancel = ap (λ (x : Entry). x.state) (sym p) ∙ state;
-        cancelled = named-mean.0;
-        names = named-mean.1;
+        cancelled = named_mean.0;
+        names = named_mean.1;
         opposite = (opposite_means (entry_of es i) (entry_of es j)).0 ((λ t. opposite (sym p t) (sym q t)) ∙ undone);
       }
 

@@ -33,19 +33,19 @@ use Rattle.soundness.proofs.Tests.{equal, below, at_most, both, unless, implies,
 pub entry_means : (e : Entry) → (entry_fits e ≡ true) ↔ EntryFits e
 unfolding entry_fits digits_fit ranges_fit days_fit lacks_fit
 entry_means e =
-    let digits-mean =
+    let digits_mean =
     both
     (both (both (both (both (below e.sender (10 ^ 4)) (below e.site (10 ^ 13))) (below e.id (10 ^ 15))) (below e.cancels (10 ^ 15)))
     (below (nat_abs e.charge) (10 ^ 15))) (below (nat_abs e.usage) (10 ^ 15)) in
-    let ranges-mean =
+    let ranges_mean =
     both
     (both (both (both (both (one_or_two e.commodity) (one_to_three e.kind)) (at_most e.state 4)) (at_most e.start 36524)) (at_most e.end 36524))
     (exactly (equal e.kind 1) (equal e.state 0)) in
-    let lacks-mean =
+    let lacks_mean =
     both
     (both (unless (equal e.kind 2) (both (both (equal e.start 0) (equal e.end 0)) (is_zero_lem e.usage))) (implies (equal e.kind 1) (equal e.site 0)))
     (unless (equal e.state 4) (equal e.cancels 0)) in
-    let whole = both (both (both digits-mean ranges-mean) (at_most e.start e.end)) lacks-mean in (
+    let whole = both (both (both digits_mean ranges_mean) (at_most e.start e.end)) lacks_mean in (
       λ h.
           let t = whole.0 h in
           let digits = t.0.0.0 in

@@ -26,8 +26,8 @@ module _ (words : List ℕ) (amounts : List ℤ) where
   unfolding overlaps_entry
   overlap_only a n p h t =
       let e = entry_at words amounts p in
-      let live-there = ((both_of (is_live_period e && eqb e.site a.site) (shares_day (period e) (period a))).0 t).0 in
-      eqb-true _ _ ((both_of (is_live_period e) (eqb e.site a.site)).0 live-there).1
+      let live_there = ((both_of (is_live_period e && eqb e.site a.site) (shares_day (period e) (period a))).0 t).0 in
+      eqb-true _ _ ((both_of (is_live_period e) (eqb e.site a.site)).0 live_there).1
 
   module _ (f : Entry → Bool) where
     first_from_lem : (n i : ℕ) → first_from (λ (p : ℕ). f (entry_at words amounts p)) i n ≡ i + first_where f (entries_from words amounts i n)

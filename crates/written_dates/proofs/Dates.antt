@@ -89,5 +89,5 @@ read_date day h =
     let n = date_number a in
     let year : n / 10000 ≡ a.year = omega arith in
     let month : n / 100 % 100 ≡ a.month = omega arith in
-    let of-month : n % 100 ≡ a.day = omega arith in
-    fixed_day (date_digits day) ∙ ap number_day (read_fixed 8 n (omega arith) (omega arith) (omega arith)) ∙ rw (year, month, of-month) (date_number_lem day h)
+    let of_month : n % 100 ≡ a.day = omega arith in
+    fixed_day (date_digits day) ∙ ap number_day (read_fixed 8 n (omega arith) (omega arith) (omega arith)) ∙ rw (year, month, of_month) (date_number_lem day h)

@@ -17,6 +17,7 @@ use Rattle.lists.specs.InsideSelections.{all}
 use Rattle.digits.specs.Digits.{is_digit, all_digits}
 use Rattle.digits.proofs.Laws.{both_true}
 use Rattle.records.specs.Text.{onto, cut, chomp, ended, lines_of, fields_of}
+use Rattle.records.proofs.Cut.{cut_some}
 use Rattle.written_lines.specs.InsideBytes.{lacks, past_comma}
 use Rattle.written_lines.specs.Lines.{line_of}
 
@@ -131,16 +132,6 @@ line_empty : (ls : List (List ℕ)) → 0 < length ls → line_of 44 ([] ∷ ls)
 unfolding line_of
 line_empty [] h = absurd (omega arith)
 line_empty (l ∷ ls) h = refl
-
-cut_some : (d : ℕ) (s : List ℕ) → 0 < length (cut d s)
-unfolding cut
-cut_some d [] = omega arith
-cut_some d (b ∷ s) = go (eqb b d) (cut d s)
-  where
-    go : (q : Bool) (ls : List (List ℕ)) → 0 < length (cond q ([] ∷ ls) (onto b ls))
-    go true ls = omega arith
-    go false [] = omega arith
-    go false (l ∷ ls) = omega arith
 
 pub line_again : (line : List ℕ) → line_of 44 (fields_of line) ≡ line ++ (10 ∷ [])
 unfolding cut line_of

@@ -38,10 +38,10 @@ write_originals-requires c =
 
 pub returns : goal.returns
 returns c =
-    let header-in : let run = entries_of c.args.words.now c.args.amounts.now c.args.places in entries_of c.put.new.words c.put.new.amounts c.args.places ≡ set run c.args.used (file_entry (file_in c.args.file.now)) =
+    let header_in : let run = entries_of c.args.words.now c.args.amounts.now c.args.places in entries_of c.put.new.words c.put.new.amounts c.args.places ≡ set run c.args.used (file_entry (file_in c.args.file.now)) =
     c.put.ensures ∙ ap (λ (e : Entry). set (entries_of c.args.words.now c.args.amounts.now c.args.places) c.args.used e) c.requires.by_index.1 in
     let long : (words : _) (amounts : _) → length (entries_of words amounts c.args.places) ≡ c.args.places = λ words amounts. length_entries words amounts c.args.places in
     let all = assembled (file_in c.args.file.now) c.args.n c.args.used c.write_cancels-at.result c.write_originals.result.used c.write_originals.result.held (entries_of c.args.words.now c.args.amounts.now c.args.places) _ _ _
-    c.requires.source.0.count (omega (arith, long c.args.words.now c.args.amounts.now, c.requires.room_for.2)) (header-in)
+    c.requires.source.0.count (omega (arith, long c.args.words.now c.args.amounts.now, c.requires.room_for.2)) (header_in)
     c.write_cancels-at.ensures.fact c.write_cancels-at.ensures.value c.write_originals.ensures.fact c.write_originals.ensures.used_value (long _ _ ∙ sym (long _ _)) c.write_originals.ensures.held_value in
     record { used_value = all.0; fact = all.1.0; held_value = all.1.1 }

@@ -17,8 +17,8 @@ use Rattle.conditional_fields.proofs.is_ratchet.Goals as goal
 abbrev Says : ℕ → Type 0
 Says x = (x ≡ 10 ^ 15 + 4100) ⊎ ((x ≡ 10 ^ 15 + 4110) ⊎ ((x ≡ 10 ^ 15 + 4120) ⊎ (x ≡ 10 ^ 15 + 4200)))
 
-says-one : (x : ℕ) → Says x → true ≡ is_one_of ratchets (said_by x)
-says-one x = ⊎_elim (λ e. said 4100 e (omega arith) refl) (⊎_elim (λ e. said 4110 e (omega arith) refl) (⊎_elim (λ e. said 4120 e (omega arith) refl) (λ e. said 4200 e (omega arith) refl)))
+says_one : (x : ℕ) → Says x → true ≡ is_one_of ratchets (said_by x)
+says_one x = ⊎_elim (λ e. said 4100 e (omega arith) refl) (⊎_elim (λ e. said 4110 e (omega arith) refl) (⊎_elim (λ e. said 4120 e (omega arith) refl) (λ e. said 4200 e (omega arith) refl)))
   where
     said : (n : ℕ) → x ≡ 10 ^ 15 + n → n < 10 ^ 15 → true ≡ is_one_of ratchets (Units (pos n)) → true ≡ is_one_of ratchets (said_by x)
     said n e small one = one ∙ ap (is_one_of ratchets) (sym (ap said_by e ∙ said_plain n small))
@@ -34,7 +34,7 @@ says_none x none = go (is_one_of ratchets (said_by x)) refl
         absurd (none (⊎_elim (λ q. inl (is ∙ ap (λ (n : ℕ). 10 ^ 15 + n) q)) (⊎_elim (λ q. inr (inl (is ∙ ap (λ (n : ℕ). 10 ^ 15 + n) q))) (⊎_elim (λ q. inr (inr (inl (is ∙ ap (λ (n : ℕ). 10 ^ 15 + n) q)))) (λ q. inr (inr (inr (is ∙ ap (λ (n : ℕ). 10 ^ 15 + n) q)))))) w.2))
 
 pub returns-in-1000000000004100 : goal.returns-in-1000000000004100
-returns-in-1000000000004100 c = says-one c.args.number c.in-1000000000004100.is
+returns-in-1000000000004100 c = says_one c.args.number c.in-1000000000004100.is
 
 pub returns-in_default : goal.returns-in_default
 returns-in_default c = says_none c.args.number c.in_default.in_default-own.rest.1

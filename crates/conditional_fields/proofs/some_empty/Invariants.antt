@@ -14,11 +14,11 @@ use Rattle.format.proofs.Some.{some_here, some_end}
 use Rattle.conditional_fields.proofs.some_empty.Given as goal
 
 -- the field at place j of those asked for is empty
-abbrev pub isEmptyAt : List ℕ → List ℕ → ℕ → ℕ → Bool
-isEmptyAt starts ends after j = eqb (get_or starts (after + j) 0) (get_or ends (after + j) 0)
+abbrev pub is_empty_at : List ℕ → List ℕ → ℕ → ℕ → Bool
+is_empty_at starts ends after j = eqb (get_or starts (after + j) 0) (get_or ends (after + j) 0)
 
 abbrev pub invariant-loop-j : goal.invariant-loop-j
-invariant-loop-j l = (l.j ≤ l.count) × Searched (isEmptyAt l.starts l.ends l.after) l.count l.j
+invariant-loop-j l = (l.j ≤ l.count) × Searched (is_empty_at l.starts l.ends l.after) l.count l.j
 
 abbrev pub decreases-loop-j : goal.decreases-loop-j
 decreases-loop-j l = l.count - l.j

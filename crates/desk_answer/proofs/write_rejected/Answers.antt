@@ -26,12 +26,12 @@ write_number-requires c =
 pub returns : goal.returns
 unfolding parted rejected_line
 returns c =
-    let past-code = plain_digits c.args.line ++ (10 ∷ []) in
-    let past-number = plain_digits c.args.code ++ (32 ∷ past-code) in (
+    let past_code = plain_digits c.args.line ++ (10 ∷ []) in
+    let past_number = plain_digits c.args.code ++ (32 ∷ past_code) in (
       sym
-          (piece c.args.out.now 0 c.write_bytes.new.out (written "rejected ") (plain_digits c.args.number ++ (32 ∷ past-number)) 9 (omega arith) c.write_bytes.ensures refl
-          ∙ number_piece c.write_bytes.new.out c.write_number-past_number.new.out 9 c.args.number 32 c.write_number-past_number.result past-number (omega arith) c.write_number-past_number.ensures.0 c.write_number-past_number.ensures.1
-          ∙ number_piece c.write_number-past_number.new.out c.write_number-past_code.new.out c.write_number-past_number.result c.args.code 32 c.write_number-past_code.result past-code (omega (arith, plain_short c.args.number, c.write_number-past_number.ensures.1)) c.write_number-past_code.ensures.0 c.write_number-past_code.ensures.1
+          (piece c.args.out.now 0 c.write_bytes.new.out (written "rejected ") (plain_digits c.args.number ++ (32 ∷ past_number)) 9 (omega arith) c.write_bytes.ensures refl
+          ∙ number_piece c.write_bytes.new.out c.write_number-past_number.new.out 9 c.args.number 32 c.write_number-past_number.result past_number (omega arith) c.write_number-past_number.ensures.0 c.write_number-past_number.ensures.1
+          ∙ number_piece c.write_number-past_number.new.out c.write_number-past_code.new.out c.write_number-past_number.result c.args.code 32 c.write_number-past_code.result past_code (omega (arith, plain_short c.args.number, c.write_number-past_number.ensures.1)) c.write_number-past_code.ensures.0 c.write_number-past_code.ensures.1
           ∙ sym c.write_number.ensures.0),
       omega (arith, rejected_length c.args.number c.args.code c.args.line, c.write_number.ensures.1, c.write_number-past_code.ensures.1, c.write_number-past_number.ensures.1),
     )

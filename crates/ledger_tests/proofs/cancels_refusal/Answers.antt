@@ -22,24 +22,24 @@ name_cancels-unnamed-requires c = record { room_for = c.requires.room_for; used_
 
 pub returns-then-unnamed-n : goal.returns-then-unnamed-n
 returns-then-unnamed-n c =
-    let bill-file : BillFile = file_in c.args.file.now in
-    record { value = (bill_fails 39 (bill-file) c.requires.used_bound.2 c.name_cancels-unnamed.ensures.value c.if-unnamed-n.true c.refused.ensures).first; named = λ e. absurd (omega (arith, sym e ∙ ap (λ (o : Outcome). o.number) c.refused.ensures)) }
+    let bill_file : BillFile = file_in c.args.file.now in
+    record { value = (bill_fails 39 (bill_file) c.requires.used_bound.2 c.name_cancels-unnamed.ensures.value c.if-unnamed-n.true c.refused.ensures).first; named = λ e. absurd (omega (arith, sym e ∙ ap (λ (o : Outcome). o.number) c.refused.ensures)) }
 
 pub first_unopposed-unopposed-requires : goal.first_unopposed-unopposed-requires
 first_unopposed-unopposed-requires c =
     let ledger : List Entry = entries_of c.args.words.now c.args.amounts.now c.args.used in
-    let bill-file : BillFile = file_in c.args.file.now in
-    let all_named : c.name_cancels-unnamed.result ≡ c.args.n = omega (arith, c.if-unnamed-n.false, c.name_cancels-unnamed.ensures.value, c.requires.used_bound.2.source.count, unnamed_most (ledger) (bill-file)) in
+    let bill_file : BillFile = file_in c.args.file.now in
+    let all_named : c.name_cancels-unnamed.result ≡ c.args.n = omega (arith, c.if-unnamed-n.false, c.name_cancels-unnamed.ensures.value, c.requires.used_bound.2.source.count, unnamed_most (ledger) (bill_file)) in
     record { room_for = c.requires.room_for.0; source = (c.requires.used_bound.2.source, c.name_cancels-unnamed.ensures.named (all_named)) }
 
 pub returns-then-unopposed-n : goal.returns-then-unopposed-n
 returns-then-unopposed-n c =
-    let bill-file : BillFile = file_in c.args.file.now in
-    record { value = (bill_passes 39 (bill-file) c.requires.used_bound.2 c.name_cancels-unnamed.ensures.value c.if-unnamed-n.false (bill_fails 40 (bill-file) c.requires.used_bound.2 c.first_unopposed-unopposed.ensures c.if-unopposed-n.true c.refused-then-unopposed-n.ensures)).first; named = λ e. absurd (omega (arith, sym e ∙ ap (λ (o : Outcome). o.number) c.refused-then-unopposed-n.ensures)) }
+    let bill_file : BillFile = file_in c.args.file.now in
+    record { value = (bill_passes 39 (bill_file) c.requires.used_bound.2 c.name_cancels-unnamed.ensures.value c.if-unnamed-n.false (bill_fails 40 (bill_file) c.requires.used_bound.2 c.first_unopposed-unopposed.ensures c.if-unopposed-n.true c.refused-then-unopposed-n.ensures)).first; named = λ e. absurd (omega (arith, sym e ∙ ap (λ (o : Outcome). o.number) c.refused-then-unopposed-n.ensures)) }
 
 pub returns : goal.returns
 returns c =
-    let bill-file : BillFile = file_in c.args.file.now in
+    let bill_file : BillFile = file_in c.args.file.now in
     let ledger : List Entry = entries_of c.args.words.now c.args.amounts.now c.args.used in
-    let all_named : c.name_cancels-unnamed.result ≡ c.args.n = omega (arith, c.if-unnamed-n.false, c.name_cancels-unnamed.ensures.value, c.requires.used_bound.2.source.count, unnamed_most (ledger) (bill-file)) in
-    record { value = (bill_passes 39 (bill-file) c.requires.used_bound.2 c.name_cancels-unnamed.ensures.value c.if-unnamed-n.false (bill_passes 40 (bill-file) c.requires.used_bound.2 c.first_unopposed-unopposed.ensures c.if-unopposed-n.false (none_fails c.refused-2.ensures))).first; named = λ e. c.name_cancels-unnamed.ensures.named (all_named) }
+    let all_named : c.name_cancels-unnamed.result ≡ c.args.n = omega (arith, c.if-unnamed-n.false, c.name_cancels-unnamed.ensures.value, c.requires.used_bound.2.source.count, unnamed_most (ledger) (bill_file)) in
+    record { value = (bill_passes 39 (bill_file) c.requires.used_bound.2 c.name_cancels-unnamed.ensures.value c.if-unnamed-n.false (bill_passes 40 (bill_file) c.requires.used_bound.2 c.first_unopposed-unopposed.ensures c.if-unopposed-n.false (none_fails c.refused-2.ensures))).first; named = λ e. c.name_cancels-unnamed.ensures.named (all_named) }

@@ -42,11 +42,11 @@ returns-then-not-fits c =
 pub overflow_add-len : goal.overflow_add-len
 overflow_add-len c =
     let size : MagnitudeTold (c.args.precision - c.args.scale) c.args.scale (drop c.if-first-eq45.minus c.args.s.now) c.read_magnitude-size.result = rw part_rest at c.read_magnitude-size.ensures in
-    let size-read : MagnitudeRead (c.args.precision - c.args.scale) c.args.scale (drop c.if-first-eq45.minus c.args.s.now) c.read_magnitude-size.result = (size).0 (c.if-not-fits.false) in
+    let size_read : MagnitudeRead (c.args.precision - c.args.scale) c.args.scale (drop c.if-first-eq45.minus c.args.s.now) c.read_magnitude-size.result = (size).0 (c.if-not-fits.false) in
     let other : get_or c.args.s.now 0 44 ≡ 44 → ⊥ = λ z. c.if-first-eq44.false (c.next_byte-first.ensures ∙ z) in
-    let minus-inside : (c.if-first-eq45.minus ≤ 1) × (1 ≤ length c.args.s.now) = (elim c.if-first-eq45.branch [ then-first-eq45 w ↦ omega (arith, w.minus-is) | else-first-eq45 w ↦ omega (arith, w.minus-is) ], next_inside c.args.s.now 0 (other)) in
+    let minus_inside : (c.if-first-eq45.minus ≤ 1) × (1 ≤ length c.args.s.now) = (elim c.if-first-eq45.branch [ then-first-eq45 w ↦ omega (arith, w.minus-is) | else-first-eq45 w ↦ omega (arith, w.minus-is) ], next_inside c.args.s.now 0 (other)) in
     let rest = drop c.if-first-eq45.minus c.args.s.now in
-    omega (arith, (size-read).ends, first_le (is_byte 44) rest, length-drop c.if-first-eq45.minus c.args.s.now, minus-inside)
+    omega (arith, (size_read).ends, first_le (is_byte 44) rest, length-drop c.if-first-eq45.minus c.args.s.now, minus_inside)
 
 pub returns : goal.returns
 returns c =
@@ -55,10 +55,10 @@ returns c =
     let first = sym c.next_byte-first.ensures in
     elim c.if-first-eq45.branch [ then-first-eq45 w ↦ w.minus-is ∙ sym (rw (eq-eqb _ _ (first ∙ w.if-first-eq45.true))) | else-first-eq45 w ↦ w.minus-is ∙ sym (rw (ne_eqb _ _ (λ z. w.if-first-eq45.false (sym first ∙ z)))) ] in
     let size : MagnitudeTold (c.args.precision - c.args.scale) c.args.scale (drop c.if-first-eq45.minus c.args.s.now) c.read_magnitude-size.result = rw part_rest at c.read_magnitude-size.ensures in
-    let size-read : MagnitudeRead (c.args.precision - c.args.scale) c.args.scale (drop c.if-first-eq45.minus c.args.s.now) c.read_magnitude-size.result = (size).0 (c.if-not-fits.false) in (
+    let size_read : MagnitudeRead (c.args.precision - c.args.scale) c.args.scale (drop c.if-first-eq45.minus c.args.s.now) c.read_magnitude-size.result = (size).0 (c.if-not-fits.false) in (
       λ e.
           number_read c.args.precision c.args.scale c.args.s.now (other) c.if-first-eq45.minus (minus_is) c.read_magnitude-size.result
-          c.reads-2.result (size-read) c.reads-2.ensures.1 (omega arith)
+          c.reads-2.result (size_read) c.reads-2.ensures.1 (omega arith)
           (ap said_by c.reads-2.ensures.2 ∙ rw c.next_byte-first.ensures at c.saying.ensures),
       λ e. let z : ◌≡◌ {A = ℕ} 0 1 = cc in absurd (omega arith),
     )
