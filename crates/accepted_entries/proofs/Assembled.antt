@@ -1,13 +1,13 @@
 -- The file entry, the cancels and the originals together are what an accepted file leaves.
 --     assembled      what the run, the used count and the held count are
---     named_after    what the cancels name is the same with the file entry written
+--     originals_fit  the originals have places after the cancels
 -- Assumes nothing.
-use mathlib.Core.Path.{◌≡◌, sym, ap, ◌∙◌, subst}
+use mathlib.Core.Path.{◌≡◌, sym, ap, ◌∙◌}
 use mathlib.Core.List.{List, ◌∷◌, [], ◌++◌}
 use Prim.Native.Nat.{ℕ, ◌+◌, ◌≤◌}
 use native.Mathlib.Omega.{arith}
-use lib.ListN.{length, set, take, drop}
-use lib.Seq.{length-take-le, take-set-le, drop-set-lt}
+use lib.ListN.{length, set, take, drop, length-set}
+use lib.Seq.{length-take-le, drop-set-lt}
 use Rattle.lists.specs.Selections.{count}
 use Rattle.lists.proofs.Selections.{length_split}
 use Rattle.bill_files.specs.Accepted.{Bill, BillFile}
@@ -16,9 +16,12 @@ use Rattle.entries.specs.Entries.{is_held}
 use Rattle.booking.specs.Booking.{file_entry, cancels, originals, book_cancels, book_originals, booked}
 use Rattle.booking.proofs.Added.{cancel_all, ahead, original_entries, cancels_parts, held_count}
 use Rattle.accepted_entries.specs.InsideAccepted.{Leaves}
-use Rattle.used_entries.specs.InsideNamed.{Named}
 use Rattle.accepted_entries.proofs.Steps.{drop_later, snoc_set}
 use Rattle.accepted_entries.proofs.Originals.{originals_added}
+
+pub originals_fit : (file : BillFile) (used n at : ℕ) (run run' : List Entry) (place : ℕ) (e : Entry) → n ≡ length file.bills → at ≡ used + 1 + length (cancels file) → used + 1 + n ≤ length run
+    → length run' ≡ length (set run place e) → at + length (originals file) ≤ length run'
+originals_fit file used n at run run' place e n-is at-is room same = omega (arith, n-is, at-is, same, length-set run place e, length_split (λ (b : Bill). b.cancel) file.bills)
 
 module _ (file : BillFile) (n used at r held : ℕ) (run₀ run₁ run₂ run₃ : List Entry) (n-is : n ≡ length file.bills) (room : used + 1 + n ≤ length run₀)
     (one : run₁ ≡ set run₀ used (file_entry file))
@@ -61,8 +64,3 @@ module _ (file : BillFile) (n used at r held : ℕ) (run₀ run₁ run₂ run₃
   pub assembled : length run₂ ≡ length run₀ → held ≡ count is_held (drop at (book_originals (take at run₂) (originals file)))
       → (r ≡ used + 1 + n) × (Leaves run₀ run₃ r (booked l file) × (held ≡ count is_held (drop used (booked l file))))
   assembled long h = (all_count, (all_written, all_held long h))
-
-pub named_after : (file : BillFile) (used : ℕ) (run₀ run₁ : List Entry) (named : List ℕ) → run₁ ≡ set run₀ used (file_entry file) → Named (take used run₀) file.bills named
-    → Named (take used run₁) file.bills named
-named_after file used run₀ run₁ named one N =
-    subst (λ (x : List Entry). Named x file.bills named) (sym (ap (take used) one ∙ take-set-le used run₀ used (file_entry file) (omega arith))) N

@@ -1,8 +1,7 @@
 -- The loop that writes the cancels.
---     Cancelling                           its invariant
---     cancelling_none, cancelling_step     it holds at the start, and after one bill more
---     room_left                            a cancel has a place to be written at
---     cancelling_count, cancelling_end     what it says at the end
+--     Cancelling         its invariant
+--     cancelling_step    it holds after one bill more
+--     room_left          a cancel has a place to be written at
 -- Assumes nothing.
 use mathlib.Core.Path.{◌≡◌, refl, sym, ap, ◌∙◌, subst}
 use mathlib.Core.Bool.{Bool, true, false, cond}
@@ -10,7 +9,7 @@ use mathlib.Core.List.{List, [], ◌∷◌, ◌++◌}
 use Prim.Native.Nat.{ℕ, ◌+◌, ◌≤◌, ◌<◌}
 use native.Mathlib.Nat.{le_refl}
 use native.Mathlib.Omega.{arith}
-use lib.ListN.{length, get_or, set, take, drop, length-set, take-append-drop, drop_of_length-le}
+use lib.ListN.{length, get_or, set, take, drop, length-set, take-append-drop}
 use lib.Seq.{length-take-le, take-take, take-set-le, take-set-lt, drop-set-lt, get_or-take}
 use Rattle.lists.specs.First.{first_where}
 use Rattle.lists.specs.Selections.{filter}
@@ -20,7 +19,7 @@ use Rattle.entries.specs.declared.Entry.{Entry}
 use Rattle.entries.specs.Entries.{blank, entry_of, in_state}
 use Rattle.booking.specs.Booking.{entry, names_entry, cancel_named, book_cancels}
 use Rattle.booking.specs.Acceptable.{bill_at}
-use Rattle.accepted_entries.specs.InsideAccepted.{with_cancel, Leaves}
+use Rattle.accepted_entries.specs.InsideAccepted.{with_cancel}
 use Rattle.file_bills.specs.InsideBills.{is_cancel, source_entry}
 use Rattle.used_entries.specs.InsideNamed.{cancelled_by, named_place, Named}
 use Rattle.accepted_entries.proofs.Steps.{left_here, left_past, drop_later, snoc_set, first_ahead}
@@ -40,9 +39,6 @@ pub record Cancelling (bills : List Bill) (u : ℕ) (first run : List Entry) (k 
   pub past : drop used run ≡ drop used first
 
 module _ (bills : List Bill) (u : ℕ) (first : List Entry) where
-  pub cancelling_none : Cancelling bills u first first 0 (u + 1)
-  cancelling_none = record { long = refl; ahead = omega arith; counted = refl; before = refl; resumes = refl; past = refl }
-
   module _ (run : List Entry) (k used : ℕ) (C : Cancelling bills u first run k used) (h : k < length bills) where
     cancelling_skip : (bill_at bills k).cancel ≡ false → Cancelling bills u first run (k + 1) used
     cancelling_skip e =
@@ -132,14 +128,3 @@ module _ (bills : List Bill) (u : ℕ) (first : List Entry) where
             let all : run' ≡ run = runs ∙ ap (λ (t : Bool). cond t (with_cancel run used (get_or named k 0) e) run) (flag ∙ q) in
             let more : used' ≡ used = uses ∙ ap (λ (t : Bool). cond t (used + 1) used) (flag ∙ q) in
             subst (λ (l : List Entry). Cancelling bills u first l (k + 1) used') (sym all) (subst (λ (m : ℕ). Cancelling bills u first run (k + 1) m) (sym more) (cancelling_skip run k used C h q))
-
-  -- at the end
-  module _ (run : List Entry) (k used : ℕ) (C : Cancelling bills u first run k used) (end : length bills ≤ k) where
-    nothing : filter is_y (drop k bills) ≡ []
-    nothing = ap (filter is_y) (drop_of_length-le bills {i = k} end)
-
-    pub cancelling_count : used ≡ u + 1 + length (filter is_y bills)
-    cancelling_count = omega (arith, C.counted, ap length nothing)
-
-    pub cancelling_end : Leaves first run used (book_cancels (take (u + 1) first) (filter is_y bills))
-    cancelling_end = record { entries = sym (C.resumes ∙ ap (book_cancels (take used run)) nothing); past = C.past }

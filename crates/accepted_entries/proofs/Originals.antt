@@ -1,9 +1,9 @@
 -- The loop that writes the originals.
 --     originals_added                         what is past the entries before them
 --     Originating                             its invariant
---     originating_none, originating_step      it holds at the start, and after one bill more
+--     originating_step                        it holds after one bill more
 --     room_left                               an original has a place to be written at
---     originating_count, originating_end, originating_held    what it says at the end
+--     originating_held                        how many are held at the end
 -- Assumes nothing.
 use mathlib.Core.Path.{◌≡◌, refl, sym, ap, ◌∙◌, subst}
 use mathlib.Core.Bool.{Bool, true, false, not, ◌&&◌, cond}
@@ -21,7 +21,7 @@ use Rattle.used_entries.specs.InsideSited.{overlaps_entry}
 use Rattle.booking.specs.Booking.{entry, overlaps, first_overlap, state_of, original, book_originals}
 use Rattle.booking.specs.Acceptable.{bill_at}
 use Rattle.booking.proofs.Added.{original_entries, originals_parts}
-use Rattle.accepted_entries.specs.InsideAccepted.{state_after, original_after, with_original, Leaves}
+use Rattle.accepted_entries.specs.InsideAccepted.{state_after, original_after, with_original}
 use Rattle.file_bills.specs.InsideBills.{is_cancel, source_entry}
 use Rattle.accepted_entries.proofs.Steps.{left_here, left_past, drop_later, snoc_set}
 use Rattle.file_bills.proofs.Sources.{source_cancel, source_as}
@@ -58,9 +58,6 @@ pub record Originating (bills : List Bill) (at : ℕ) (first run : List Entry) (
   pub past : drop used run ≡ drop used first
 
 module _ (bills : List Bill) (at : ℕ) (first : List Entry) where
-  pub originating_none : Originating bills at first first 0 at 0
-  originating_none = record { long = refl; counted = refl; resumes = refl; holding = omega arith; past = refl }
-
   module _ (run : List Entry) (k used held : ℕ) (O : Originating bills at first run k used held) (h : k < length bills) where
     originating_skip : (bill_at bills k).cancel ≡ true → Originating bills at first run (k + 1) used held
     originating_skip e =
@@ -150,12 +147,6 @@ module _ (bills : List Bill) (at : ℕ) (first : List Entry) where
   module _ (run : List Entry) (k used held : ℕ) (O : Originating bills at first run k used held) (end : length bills ≤ k) where
     nothing : filter is_n (drop k bills) ≡ []
     nothing = ap (filter is_n) (drop_of_length-le bills {i = k} end)
-
-    pub originating_count : used ≡ at + length (filter is_n bills)
-    originating_count = omega (arith, O.counted, ap length nothing)
-
-    pub originating_end : Leaves first run used (book_originals (take at first) (filter is_n bills))
-    originating_end = record { entries = sym (O.resumes ∙ ap (book_originals (take used run)) nothing); past = O.past }
 
     pub originating_held : at ≤ length first → held ≡ count is_held (drop at (book_originals (take at first) (filter is_n bills)))
     originating_held fits =

@@ -6,10 +6,11 @@
 --     file_fits          and so has the file's own entry
 --     bills_few          a file has at most as many bills as lines
 -- The proofs read the tables of fields at the three types that count, FH, TH and OC. Assumes nothing.
+use Rattle.std.specs.Prelude.{is_some}
 use mathlib.Core.Path.{◌≡◌, refl, sym, ◌∙◌, ap, subst}
 use mathlib.Core.Logic.{◌⊎◌, inl, inr}
 use mathlib.Core.Bool.{Bool, true, false, cond, not, ◌&&◌, ◌||◌, true≢false}
-use mathlib.Core.Option.{some}
+use Rattle.std.specs.Prelude.{Option, Some, None}
 use mathlib.Core.List.{List, [], ◌∷◌, map}
 use Prim.Native.Nat.{ℕ, zero, suc, ◌+◌, ◌-◌, ◌^◌, ◌≤◌, ◌<◌}
 use native.Mathlib.Omega.{arith}
@@ -21,17 +22,13 @@ use Rattle.lists.specs.Below.{first_from, first_below, some_below}
 use Rattle.lists.specs.Bytes.{same_bytes}
 use Rattle.lists.specs.Written.{written}
 use Rattle.lists.proofs.Below.{some_none}
-use Rattle.digits.specs.declared.Number.{Number}
-use Rattle.digits.specs.declared.Number.TheVariants.{Value, Other}
 use Rattle.digits.specs.Digits.{digits_of, fixed_digits_of}
 use Rattle.digits.proofs.Laws.{digits_bound}
-use Rattle.calendar.specs.declared.Day.{Day}
-use Rattle.calendar.specs.declared.Day.TheVariants.{At, NotADate}
 use Rattle.calendar.specs.Calendar.{day_of}
 use Rattle.calendar.proofs.Dates.{day_bound}
 use Rattle.fields.specs.declared.FieldType.{FieldType}
 use Rattle.fields.specs.declared.FieldType.TheVariants.{RecordId, Digits, Number as Num, Date, DateTime, Char, Varchar}
-use Rattle.fields.specs.Fields.{is_read, is_day, fits_filled, fits_type}
+use Rattle.fields.specs.Fields.{fits_filled, fits_type}
 use Rattle.tables.specs.Types.{FH, TH, OC}
 use Rattle.records.specs.Records.{record_fields, field, type_in}
 use Rattle.tables.specs.Tables.{field_count, field_type, is_mandatory}
@@ -42,23 +39,23 @@ use Rattle.columns.proofs.Laws.{map_at, number_small, charge_bound, usage_bound}
 use Rattle.format.specs.Format.{line_at}
 use Rattle.lists.proofs.Reflected.{both_of, denied, empty_is}
 use Rattle.fields.proofs.Read.{read_value}
-use Rattle.bill_files.specs.Accepted.{Bill, number_or_zero, number_or_none, day_or_zero, sender_in, id_in, is_period, is_bill, bill_in, bills_in, bill_file}
+use Rattle.bill_files.specs.Accepted.{Bill, number_or_zero, sender_in, id_in, is_period, is_bill, bill_in, bills_in, bill_file}
 use Rattle.lists.specs.Selections.{filter}
 use Rattle.lists.proofs.Selections.{second_of_lem}
 use Rattle.bill_files.specs.InsideFits.{BillFits, FileFits, Distinct}
 use Rattle.bill_files.specs.Passing.{type_at, id_at, Passing}
 
 -- ════ numbers that are read
-day_value : (x : Day) → is_day x ≡ true → (n : ℕ) × (x ≡ At n)
-day_value (At n) e = (n, refl)
-day_value NotADate e = absurd (true≢false (sym e))
+day_value : (x : Option ℕ) → is_some x ≡ true → (n : ℕ) × (x ≡ Some n)
+day_value (Some n) e = (n, refl)
+day_value None e = absurd (true≢false (sym e))
 
 -- just w digits
-fixed_bound : (w : ℕ) (s : List ℕ) → is_read (fixed_digits_of w s) ≡ true → number_or_zero (digits_of s) < 10 ^ w
+fixed_bound : (w : ℕ) (s : List ℕ) → is_some (fixed_digits_of w s) ≡ true → number_or_zero (digits_of s) < 10 ^ w
 unfolding fixed_digits_of
 fixed_bound w s e = go (eqb (length s) w) refl e
   where
-    go : (t : Bool) → eqb (length s) w ≡ t → is_read (cond t (digits_of s) Other) ≡ true → number_or_zero (digits_of s) < 10 ^ w
+    go : (t : Bool) → eqb (length s) w ≡ t → is_some (cond t (digits_of s) None) ≡ true → number_or_zero (digits_of s) < 10 ^ w
     go true q e =
         let v = read_value (digits_of s) e in
         rw v.1 (subst (λ (k : ℕ). v.0 < 10 ^ k) (eqb-true (length s) w q) (digits_bound s v.0 v.1))
@@ -67,23 +64,23 @@ fixed_bound w s e = go (eqb (length s) w) refl e
 number_bound : (s : List ℕ) → number_or_zero (digits_of s) < 10 ^ 15
 number_bound s = go (digits_of s) refl
   where
-    go : (x : Number) → digits_of s ≡ x → number_or_zero x < 10 ^ 15
-    go (Value n) e = number_small s n e
-    go Other e = lit< tt
+    go : (x : Option ℕ) → digits_of s ≡ x → number_or_zero x < 10 ^ 15
+    go (Some n) e = number_small s n e
+    go None e = lit< tt
 
-reference_bound : (s : List ℕ) (n : ℕ) → number_or_none (digits_of s) ≡ some n → n < 10 ^ 15
+reference_bound : (s : List ℕ) (n : ℕ) → digits_of s ≡ Some n → n < 10 ^ 15
 reference_bound s n e = go (digits_of s) refl e
   where
-    go : (x : Number) → digits_of s ≡ x → number_or_none x ≡ some n → n < 10 ^ 15
-    go (Value m) q e = let same : m ≡ n = cc in subst (λ (k : ℕ). k < 10 ^ 15) same (number_small s m q)
-    go Other q e = let z : ◌≡◌ {A = ℕ} 0 1 = cc in absurd (omega arith)
+    go : (x : Option ℕ) → digits_of s ≡ x → x ≡ Some n → n < 10 ^ 15
+    go (Some m) q e = let same : m ≡ n = cc in subst (λ (k : ℕ). k < 10 ^ 15) same (number_small s m q)
+    go None q e = let z : ◌≡◌ {A = ℕ} 0 1 = cc in absurd (omega arith)
 
-day_or_zero_bound : (s : List ℕ) → day_or_zero (day_of s) ≤ 36524
+day_or_zero_bound : (s : List ℕ) → number_or_zero (day_of s) ≤ 36524
 day_or_zero_bound s = go (day_of s) refl
   where
-    go : (x : Day) → day_of s ≡ x → day_or_zero x ≤ 36524
-    go (At n) e = day_bound s n e
-    go NotADate e = lit≤ tt
+    go : (x : Option ℕ) → day_of s ≡ x → number_or_zero x ≤ 36524
+    go (Some n) e = day_bound s n e
+    go None e = lit≤ tt
 
 one_of : (m n : ℕ) (b : Bool) → (cond b m n ≡ m) ⊎ (cond b m n ≡ n)
 one_of m n true = inl refl
@@ -244,10 +241,10 @@ module _ {retailer : ℕ} {distributors : List ℕ} {lines : List (List ℕ)} (p
   mandatory_fits i t h e k = subst (λ (t : ℕ). is_required t k ≡ true → fits_filled (field_type t k) (field (k + 1) (line_at lines i)) ≡ true) e (required_fits i h k)
 
   -- ---- Record IDs
-  id_read : (i : ℕ) → i < length lines → (n : ℕ) × (id_at record_id lines i ≡ Value n) × (id_in (line_at lines i) ≡ n)
+  id_read : (i : ℕ) → i < length lines → (n : ℕ) × (id_at record_id lines i ≡ Some n) × (id_in (line_at lines i) ≡ n)
   id_read i h =
       let table = has_id_lem (type_at lines i) (p.formatted i h).known in
-      let fits : is_read (digits_of (field 1 (line_at lines i))) ≡ true = rw table.1 at (mandatory_fits i (type_at lines i) h refl 0 table.0) in
+      let fits : is_some (digits_of (field 1 (line_at lines i))) ≡ true = rw table.1 at (mandatory_fits i (type_at lines i) h refl 0 table.0) in
       let v = read_value (digits_of (field 1 (line_at lines i))) fits in
       (v.0, ap (λ (k : ℕ). digits_of (field k (line_at lines i))) table.2 ∙ v.1, ap number_or_zero v.1)
 
@@ -255,7 +252,7 @@ module _ {retailer : ℕ} {distributors : List ℕ} {lines : List (List ℕ)} (p
   ids_distinct i j h l e =
       let a = id_read i (omega arith) in
       let b = id_read j l in
-      p.distinct i j h l (a.1 ∙ ap Value (sym a.2 ∙ e ∙ b.2) ∙ sym b.1)
+      p.distinct i j h l (a.1 ∙ ap Some (sym a.2 ∙ e ∙ b.2) ∙ sym b.1)
 
   pub bill_ids : Distinct (id_in (line_at lines 0) ∷ map (λ (b : Bill). b.record_id) (bills_in lines))
   unfolding bills_in
@@ -284,13 +281,13 @@ module _ {retailer : ℕ} {distributors : List ℕ} {lines : List (List ℕ)} (p
         go false q e = let type = eqb-true (type_in line) OC e in rw type (fixed_bound 13 (field 4 line) (mandatory_fits i OC h type 3 refl))
 
     -- the days of a TH are fields 5 and 6
-    days_fit_lem : type_in line ≡ TH → day_or_zero (day_of (field_in start_day line)) ≤ day_or_zero (day_of (field_in end_day line))
+    days_fit_lem : type_in line ≡ TH → number_or_zero (day_of (field_in start_day line)) ≤ number_or_zero (day_of (field_in end_day line))
     unfolding is_required field_count is_mandatory field_type field_of
     days_fit_lem type =
         let start = day_value (day_of (field 5 line)) (mandatory_fits i TH h type 4 refl) in
         let end = day_value (day_of (field 6 line)) (mandatory_fits i TH h type 5 refl) in
-        let from : day_of (field_in start_day line) ≡ At start.0 = rw type start.1 in
-        let to : day_of (field_in end_day line) ≡ At end.0 = rw type end.1 in
+        let from : day_of (field_in start_day line) ≡ Some start.0 = rw type start.1 in
+        let to : day_of (field_in end_day line) ≡ Some end.0 = rw type end.1 in
         rw (from, to) (p.in_order i start.0 end.0 h from to)
 
     line_fits : is_bill line ≡ true → BillFits (bill_in (line_at lines 0) line)
@@ -310,11 +307,11 @@ module _ {retailer : ℕ} {distributors : List ℕ} {lines : List (List ℕ)} (p
           reference = reference_bound (field_in reference line);
         }
       where
-        ordered : (b : Bool) → is_period line ≡ b → cond b (day_or_zero (day_of (field_in start_day line))) 0 ≤ cond b (day_or_zero (day_of (field_in end_day line))) 0
+        ordered : (b : Bool) → is_period line ≡ b → cond b (number_or_zero (day_of (field_in start_day line))) 0 ≤ cond b (number_or_zero (day_of (field_in end_day line))) 0
         ordered true q = days_fit_lem (eqb-true (type_in line) TH q)
         ordered false q = omega arith
 
-        day_high : (b : Bool) → cond b (day_or_zero (day_of (field_in end_day line))) 0 ≤ 36524
+        day_high : (b : Bool) → cond b (number_or_zero (day_of (field_in end_day line))) 0 ≤ 36524
         day_high true = day_or_zero_bound (field_in end_day line)
         day_high false = lit≤ tt
 
@@ -323,7 +320,7 @@ module _ {retailer : ℕ} {distributors : List ℕ} {lines : List (List ℕ)} (p
         usage_small false = lit< tt
 
         nothing_kept : (b : Bool) → ◌≡◌ {A = ℕ} (cond b 2 3) 3
-            → (cond b (day_or_zero (day_of (field_in start_day line))) 0 ≡ 0) × (cond b (day_or_zero (day_of (field_in end_day line))) 0 ≡ 0) × (cond b (or_zero (usage_in line)) (pos 0) ≡ pos 0)
+            → (cond b (number_or_zero (day_of (field_in start_day line))) 0 ≡ 0) × (cond b (number_or_zero (day_of (field_in end_day line))) 0 ≡ 0) × (cond b (or_zero (usage_in line)) (pos 0) ≡ pos 0)
         nothing_kept true e = absurd (omega (arith, e))
         nothing_kept false e = (refl, refl, refl)
 

@@ -8,7 +8,6 @@ use Prim.Native.Nat.{ℕ, ◌-◌}
 use lib.IntN.{pos}
 use lib.ListN.{length}
 use Rattle.lists.specs.Selections.{filter}
-use Rattle.columns.specs.Columns.{site, reference, cancel}
 use Rattle.format.specs.Format.{line_at}
 use Rattle.refusals.proofs.Before.{charge_before, usage_before, charge_before_lem, usage_before_lem}
 use Rattle.bill_files.specs.Accepted.{Bill, BillFile, is_period, is_bill, bill_in, bills_in, bill_file}

@@ -13,12 +13,9 @@ use native.Mathlib.Omega.{arith}
 use borrow.Author.Tests.{leb-true, le-leb}
 use lib.Dec.{eqb, leb, ltb}
 use lib.ListN.{length}
-use Rattle.digits.specs.declared.Number.{Number}
-use Rattle.digits.specs.declared.Number.TheVariants.{Value, Other}
-use Rattle.calendar.specs.declared.Day.{Day}
-use Rattle.calendar.specs.declared.Day.TheVariants.{At, NotADate}
+use Rattle.std.specs.Prelude.{Option, Some, None}
 use Rattle.tables.specs.Types.{parent_type}
-use Rattle.columns.specs.Columns.{number_in_column, day_in_column, in_column, number_in, record_type, cancel}
+use Rattle.columns.specs.Columns.{number_in_column, in_column, number_in, record_type, cancel}
 use Rattle.columns.proofs.Laws.{map_at}
 use Rattle.tables.specs.Groups.{at, parent_place, parent_places, picked_at, picked}
 use Rattle.tables.proofs.RecordTypes.{parent_at, parent_before, parent_type_there, parent_is, picked_length, picked_at_lem}
@@ -52,19 +49,19 @@ module _ (lines : List (List ℕ)) (i : ℕ) (h : i < length lines) where
   id_at_lem column is = number_at column ∙ rw (is.0, is.1)
 
   -- one of days: a day stands as itself and one
-  day_at_lem : (column : ℕ) → IsDate column → at (numbers column lines) i ≡ day_in_column (date_at column lines i)
+  day_at_lem : (column : ℕ) → IsDate column → at (numbers column lines) i ≡ number_in_column (date_at column lines i)
   unfolding number_in in_column
   day_at_lem column is = number_at column ∙ rw (is.0, is.1, is.2)
 
-  pub date_kept : (column : ℕ) → IsDate column → (day : ℕ) → date_at column lines i ≡ At day → at (numbers column lines) i ≡ day + 1
-  date_kept column is day e = day_at_lem column is ∙ ap day_in_column e
+  pub date_kept : (column : ℕ) → IsDate column → (day : ℕ) → date_at column lines i ≡ Some day → at (numbers column lines) i ≡ day + 1
+  date_kept column is day e = day_at_lem column is ∙ ap number_in_column e
 
-  pub kept_date : (column : ℕ) → IsDate column → (at (numbers column lines) i ≡ 0 → ⊥) → (day : ℕ) × (date_at column lines i ≡ At day) × (at (numbers column lines) i ≡ day + 1)
+  pub kept_date : (column : ℕ) → IsDate column → (at (numbers column lines) i ≡ 0 → ⊥) → (day : ℕ) × (date_at column lines i ≡ Some day) × (at (numbers column lines) i ≡ day + 1)
   kept_date column is = go (date_at column lines i) (day_at_lem column is)
     where
-      go : (x : Day) → at (numbers column lines) i ≡ day_in_column x → (at (numbers column lines) i ≡ 0 → ⊥) → (day : ℕ) × (x ≡ At day) × (at (numbers column lines) i ≡ day + 1)
-      go (At day) e filled = (day, refl, e)
-      go NotADate e filled = absurd (filled e)
+      go : (x : Option ℕ) → at (numbers column lines) i ≡ number_in_column x → (at (numbers column lines) i ≡ 0 → ⊥) → (day : ℕ) × (x ≡ Some day) × (at (numbers column lines) i ≡ day + 1)
+      go (Some day) e filled = (day, refl, e)
+      go None e filled = absurd (filled e)
 
   -- and the Cancel Indicator
   pub cancel_at : at (numbers cancel lines) i ≡ marked (is_cancel_at lines i)
@@ -72,11 +69,11 @@ module _ (lines : List (List ℕ)) (i : ℕ) (h : i < length lines) where
   cancel_at = number_at cancel
 
 -- ---- equal numbers in columns are equal IDs and equal Indicators
-same_kept : (x y : Number) → number_in_column x ≡ number_in_column y → x ≡ y
-same_kept (Value m) (Value n) e = ap Value (omega (arith, e))
-same_kept (Value m) Other e = absurd (omega (arith, e))
-same_kept Other (Value n) e = absurd (omega (arith, e))
-same_kept Other Other e = refl
+same_kept : (x y : Option ℕ) → number_in_column x ≡ number_in_column y → x ≡ y
+same_kept (Some m) (Some n) e = ap Some (omega (arith, e))
+same_kept (Some m) None e = absurd (omega (arith, e))
+same_kept None (Some n) e = absurd (omega (arith, e))
+same_kept None None e = refl
 
 pub same_marked : (a b : Bool) → marked a ≡ marked b → a ≡ b
 same_marked true true e = refl

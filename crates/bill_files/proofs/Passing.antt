@@ -13,7 +13,7 @@ use borrow.Author.Tests.{eqb-false, ne_eqb}
 use lib.Dec.{eqb, ltb}
 use lib.ListN.{length}
 use Rattle.lists.proofs.Below.{first_at_most}
-use Rattle.calendar.specs.declared.Day.TheVariants.{At}
+use Rattle.std.specs.Prelude.{Some}
 use Rattle.records.specs.Text.{lines_of}
 use Rattle.tables.specs.Types.{SH, TH, DU, CH, OC, FT}
 use Rattle.amounts.specs.declared.Amount.{Amount}
@@ -30,7 +30,9 @@ use Rattle.identity.specs.Identity.{first_repeated, first_unlike}
 use Rattle.identity.proofs.Meaning.{distinct_ids, alike}
 use Rattle.headers.proofs.Meaning.{ours_is, listed_is, counts_is}
 use Rattle.periods.specs.Periods.{PeriodColumns, period_columns, first_reversed, first_overlapping}
-use Rattle.periods.proofs.Meaning.{dates_in_order, no_shared_days, Original, Chooses, HasDay}
+use Rattle.periods.specs.InsideChosen.{Chooses}
+use Rattle.periods.specs.InsideOriginals.{HasDay}
+use Rattle.periods.proofs.Meaning.{dates_in_order, no_shared_days, Original}
 use Rattle.totals.specs.Totals.{first_wrong_total}
 use Rattle.totals.proofs.Meaning.{TotalsRight, none_wrong}
 use Rattle.refusals.specs.declared.Outcome.{Outcome}
@@ -89,7 +91,7 @@ module _ (lines : List (List ℕ)) where
       )
 
   passes_14 : (first_reversed (numbers start_day lines) (numbers end_day lines) ≡ length (numbers start_day lines))
-      ↔ ((i start end : ℕ) → i < length lines → date_at start_day lines i ≡ At start → date_at end_day lines i ≡ At end → start ≤ end)
+      ↔ ((i start end : ℕ) → i < length lines → date_at start_day lines i ≡ Some start → date_at end_day lines i ≡ Some end → start ≤ end)
   passes_14 =
       let law = dates_in_order (numbers start_day lines) (numbers end_day lines) in
       let size = numbers_length start_day lines in (

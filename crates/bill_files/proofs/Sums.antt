@@ -16,8 +16,7 @@ use borrow.Author.Tests.{eqb-true, eqb-false, eq-eqb, ne_eqb, leb-true, le-leb}
 use lib.Dec.{eqb, leb}
 use lib.ListN.{length}
 use lib.IntN.{ℤ}
-use Rattle.digits.specs.declared.Number.{Number}
-use Rattle.digits.specs.declared.Number.TheVariants.{Value, Other}
+use Rattle.std.specs.Prelude.{Option, Some, None}
 use Rattle.amounts.specs.declared.Amount.{Amount}
 use Rattle.amounts.specs.declared.Amount.TheVariants.{Missing}
 use Rattle.amounts.specs.Amounts.{or_zero}
@@ -110,9 +109,9 @@ next_same m n = go (eqb m n) refl
 none_next : (g : ℕ) → eqb 0 (suc g) ≡ false
 none_next g = ne_eqb 0 (suc g) (λ e. omega arith)
 
-kept_counts : (x : Number) (g : ℕ) (b : Bool) → eqb (cond b (number_in_column x) 0) (suc g) ≡ (b && is_value g x)
-kept_counts (Value m) g true = next_same m g
-kept_counts Other g true = none_next g
+kept_counts : (x : Option ℕ) (g : ℕ) (b : Bool) → eqb (cond b (number_in_column x) 0) (suc g) ≡ (b && is_value g x)
+kept_counts (Some m) g true = next_same m g
+kept_counts None g true = none_next g
 kept_counts x g false = none_next g
 
 place_counts : (place g : ℕ) (b : Bool) → eqb (cond b place 0) (suc g) ≡ (b && eqb place (suc g))
@@ -125,10 +124,10 @@ one_counts false = refl
 
 module _ (lines : List (List ℕ)) (low high : ℕ) (amount : List ℕ → Amount) where
   pub site_totals : TotalsRight (sites_of low high lines) (sites_of SH SH lines) (map amount lines)
-      ↔ ((i s : ℕ) → i < length lines → type_at lines i ≡ SH → id_at site lines i ≡ Value s
+      ↔ ((i s : ℕ) → i < length lines → type_at lines i ≡ SH → id_at site lines i ≡ Some s
       → or_zero (amount (line_at lines i)) ≡ sum_of (is_of_site low high lines s) (λ (k : ℕ). amount (line_at lines k)) (length lines))
   site_totals =
-      totals_are lines low high SH (numbers site lines) (numbers site lines) amount (λ i s. id_at site lines i ≡ Value s) (λ b s k. b && is_value s (id_at site lines k))
+      totals_are lines low high SH (numbers site lines) (numbers site lines) amount (λ i s. id_at site lines i ≡ Some s) (λ b s k. b && is_value s (id_at site lines k))
       (λ i s h. (λ e. number_kept (id_at site lines i) s (sym (id_at_lem lines i h site (refl, refl)) ∙ e), λ e. id_at_lem lines i h site (refl, refl) ∙ ap number_in_column e ∙ add-one s))
       (λ i s o k h b. rw (id_at_lem lines k h site (refl, refl)) (kept_counts (id_at site lines k) s b))
 

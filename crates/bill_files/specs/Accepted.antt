@@ -3,15 +3,11 @@
 -- are kept for periods only. Fields that a kind lacks are 0; a file entry has its trailer charge total". An amount that is missing counts as zero.
 -- Assumes nothing.
 use Rattle.std.specs.Prelude.{ℕ, suc, ◌-◌, List, [], ◌∷◌, map, Bool, cond, ◌||◌, length, eqb, ℤ, pos}
-use Rattle.std.proofs.Math.Option.{Option, none, some}
+use Rattle.std.specs.Prelude.{Option, unwrap_or}
 use Rattle.lists.specs.Bytes.{same_bytes}
 use Rattle.lists.specs.Selections.{filter, sum}
 use Rattle.lists.specs.Written.{written}
-use Rattle.digits.specs.declared.Number.{Number}
-use Rattle.digits.specs.declared.Number.TheVariants.{Value, Other}
 use Rattle.digits.specs.Digits.{digits_of}
-use Rattle.calendar.specs.declared.Day.{Day}
-use Rattle.calendar.specs.declared.Day.TheVariants.{At, NotADate}
 use Rattle.calendar.specs.Calendar.{day_of}
 use Rattle.amounts.specs.Amounts.{or_zero}
 use Rattle.tables.specs.Types.{TH, OC}
@@ -49,17 +45,8 @@ pub record BillFile : Type 0 where
   pub lines : List ℕ
 
 -- ---- what the fields say
-abbrev pub number_or_zero : Number → ℕ
-number_or_zero (Value n) = n
-number_or_zero Other = 0
-
-abbrev pub number_or_none : Number → Option ℕ
-number_or_none (Value n) = some n
-number_or_none Other = none
-
-abbrev pub day_or_zero : Day → ℕ
-day_or_zero (At d) = d
-day_or_zero NotADate = 0
+abbrev pub number_or_zero : Option ℕ → ℕ
+number_or_zero x = unwrap_or x 0
 
 -- FH's Sender ID, and its Commodity Code as "1 EL, 2 NG"
 abbrev pub sender_in : List ℕ → ℕ
@@ -86,12 +73,12 @@ bill_in header line =
       kind = cond (is_period line) 2 3;
       record_id = id_in line;
       site = number_or_zero (digits_of (field_in site line));
-      start = cond (is_period line) (day_or_zero (day_of (field_in start_day line))) 0;
-      end = cond (is_period line) (day_or_zero (day_of (field_in end_day line))) 0;
+      start = cond (is_period line) (number_or_zero (day_of (field_in start_day line))) 0;
+      end = cond (is_period line) (number_or_zero (day_of (field_in end_day line))) 0;
       charge = or_zero (charge_in line);
       usage = cond (is_period line) (or_zero (usage_in line)) (pos 0);
       cancel = same_bytes (field_in cancel line) (written "Y");
-      reference = number_or_none (digits_of (field_in reference line));
+      reference = digits_of (field_in reference line);
     }
 
 unfoldable pub bills_in : List (List ℕ) → List Bill

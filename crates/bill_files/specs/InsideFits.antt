@@ -3,7 +3,7 @@
 -- "no start day is after its end day; what a kind lacks is 0".
 -- Assumes nothing.
 use Rattle.std.specs.Prelude.{ℕ, ◌^◌, ◌≤◌, ◌<◌, ◌≡◌, ◌⊎◌, List, length, get_or, pos, nat_abs}
-use Rattle.std.proofs.Math.Option.{some}
+use Rattle.std.specs.Prelude.{Some}
 use Rattle.bill_files.specs.Accepted.{Bill, BillFile}
 
 pub record BillFits (b : Bill) : Type 0 where
@@ -17,7 +17,7 @@ pub record BillFits (b : Bill) : Type 0 where
   pub charge : nat_abs b.charge < 10 ^ 15
   pub usage : nat_abs b.usage < 10 ^ 15
   pub once : b.kind ≡ 3 → (b.start ≡ 0) × (b.end ≡ 0) × (b.usage ≡ pos 0)
-  pub reference : (n : ℕ) → b.reference ≡ some n → n < 10 ^ 15
+  pub reference : (n : ℕ) → b.reference ≡ Some n → n < 10 ^ 15
 
 -- the same of the file's own entry
 pub record FileFits (file : BillFile) : Type 0 where

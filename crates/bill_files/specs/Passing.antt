@@ -4,11 +4,8 @@
 use Rattle.std.specs.Prelude.{ℕ, zero, suc, ◌-◌, ◌≤◌, ◌<◌, ◌≡◌, List, Bool, false, cond, ◌&&◌, length, eqb, leb, ℤ, pos, ◌+ℤ◌}
 use Rattle.lists.specs.Bytes.{same_bytes}
 use Rattle.lists.specs.Written.{written}
-use Rattle.digits.specs.declared.Number.{Number}
-use Rattle.digits.specs.declared.Number.TheVariants.{Value}
+use Rattle.std.specs.Prelude.{Option, Some}
 use Rattle.digits.specs.Digits.{digits_of, fixed_digits_of}
-use Rattle.calendar.specs.declared.Day.{Day}
-use Rattle.calendar.specs.declared.Day.TheVariants.{At}
 use Rattle.calendar.specs.Calendar.{day_of}
 use Rattle.amounts.specs.declared.Amount.{Amount}
 use Rattle.amounts.specs.Amounts.{amount_of, or_zero}
@@ -28,7 +25,7 @@ abbrev pub type_at : List (List ℕ) → ℕ → ℕ
 type_at lines i = type_in (line_at lines i)
 
 -- an ID of the record at i; an empty field has none
-abbrev pub id_at : ℕ → List (List ℕ) → ℕ → Number
+abbrev pub id_at : ℕ → List (List ℕ) → ℕ → Option ℕ
 id_at column lines i = digits_of (field_in column (line_at lines i))
 
 -- Cancel Indicator Y
@@ -36,7 +33,7 @@ abbrev pub is_cancel_at : List (List ℕ) → ℕ → Bool
 is_cancel_at lines i = same_bytes (field_in cancel (line_at lines i)) (written "Y")
 
 -- the day of a date of the record at i; an empty field has none
-abbrev pub date_at : ℕ → List (List ℕ) → ℕ → Day
+abbrev pub date_at : ℕ → List (List ℕ) → ℕ → Option ℕ
 date_at column lines i = day_of (field_in column (line_at lines i))
 
 -- the amounts of the record at i
@@ -66,10 +63,10 @@ pub record Chosen (lines : List (List ℕ)) (h i d : ℕ) : Type 0 where
   pub to : ℕ
   pub start : ℕ
   pub end : ℕ
-  pub billing_start : date_at start_day lines h ≡ At from
-  pub billing_end : date_at end_day lines h ≡ At to
-  pub period_start : date_at start_day lines i ≡ At start
-  pub period_end : date_at end_day lines i ≡ At end
+  pub billing_start : date_at start_day lines h ≡ Some from
+  pub billing_end : date_at end_day lines h ≡ Some to
+  pub period_start : date_at start_day lines i ≡ Some start
+  pub period_end : date_at end_day lines i ≡ Some end
   pub within : (from ≤ start) × (end ≤ to)
   pub has_day : (start ≤ d) × (d ≤ end)
 
@@ -111,20 +108,20 @@ pub record Passing (retailer : ℕ) (distributors : List ℕ) (lines : List (Lis
   -- 10: "Parent ID is the Record ID of the nearest preceding FH (for SH, FT), SH (TH, OC) or TH (DU, DD, DM, CH)."
   pub parents : (i j : ℕ) → i < length lines → Under lines i j → id_at parent_id lines i ≡ id_at record_id lines j
   -- 11: "FH's retailer is ours;"
-  pub ours : fixed_digits_of 9 (field 4 (line_at lines 0)) ≡ Value retailer
+  pub ours : fixed_digits_of 9 (field 4 (line_at lines 0)) ≡ Some retailer
   -- 12: "its sender is listed in the settings."
   pub listed : Listed distributors (line_at lines 0)
   -- 14: "no start date is after its end date, where both are filled."
-  pub in_order : (i start end : ℕ) → i < length lines → date_at start_day lines i ≡ At start → date_at end_day lines i ≡ At end → start ≤ end
+  pub in_order : (i start end : ℕ) → i < length lines → date_at start_day lines i ≡ Some start → date_at end_day lines i ≡ Some end → start ≤ end
   -- 17: "DU, DD, DM and CH carry their TH's Cancel Indicator."
   pub same_indicator : (i j : ℕ) → i < length lines → OfTypeUnder DU CH lines i j → is_cancel_at lines i ≡ is_cancel_at lines j
   -- 18: "no two N periods of a site, both lying within the current billing period of one and the same SH of that site, share a day
   -- (the later line fails). An SH with an empty billing date chooses none."
   pub no_shared_day : (i j h d : ℕ) → i < j → j < length lines → h < length lines → Chosen lines h i d → Chosen lines h j d → ⊥
   -- 29: "for each SH, its usage total is the sum of Usage Amount, .. over all the file's records of that Site ID, including those under another SH."
-  pub site_usage : (i s : ℕ) → i < length lines → type_at lines i ≡ SH → id_at site lines i ≡ Value s → or_zero (usage_at lines i) ≡ sum_of (is_of_site DU DU lines s) (usage_at lines) (length lines)
+  pub site_usage : (i s : ℕ) → i < length lines → type_at lines i ≡ SH → id_at site lines i ≡ Some s → or_zero (usage_at lines i) ≡ sum_of (is_of_site DU DU lines s) (usage_at lines) (length lines)
   -- 30: "and its charge total the sum of Charge Amount in CH and OC, over all the file's records of that Site ID"
-  pub site_charge : (i s : ℕ) → i < length lines → type_at lines i ≡ SH → id_at site lines i ≡ Value s → or_zero (charge_at lines i) ≡ sum_of (is_of_site CH OC lines s) (charge_at lines) (length lines)
+  pub site_charge : (i s : ℕ) → i < length lines → type_at lines i ≡ SH → id_at site lines i ≡ Some s → or_zero (charge_at lines i) ≡ sum_of (is_of_site CH OC lines s) (charge_at lines) (length lines)
   -- 31: "TH's usage .. totals are the sums over its own DU"
   pub period_usage : (i : ℕ) → i < length lines → type_at lines i ≡ TH → or_zero (usage_at lines i) ≡ sum_of (is_own DU DU lines i) (usage_at lines) (length lines)
   -- 32: "TH's .. charge totals are the sums over its own .. CH."

@@ -1,9 +1,10 @@
 -- Answers that meet Book's record.
---     refuses     a refusal's number and line, and nothing is written
+--     refuses     the refusal, and nothing is written
 --     accepts     how many entries were added and held, and the run that has them
 -- Assumes nothing.
 use mathlib.Core.Path.{◌≡◌, sym, ap, ◌∙◌}
 use mathlib.Core.Bool.{Bool, true, false, cond}
+use Rattle.std.specs.Prelude.{Err}
 use mathlib.Core.List.{List, ◌++◌}
 use Prim.Native.Nat.{ℕ, ◌+◌, ◌≤◌}
 use native.Mathlib.Omega.{arith}
@@ -13,11 +14,9 @@ use lib.ListN.{length, drop, take-append-drop}
 use lib.Seq.{length-take-le}
 use Rattle.lists.specs.Selections.{count}
 use Rattle.refusals.specs.declared.Outcome.{Outcome}
-use Rattle.refusals.specs.Refusals.{outcome}
 use Rattle.entries.specs.declared.Entry.{Entry}
 use Rattle.entries.specs.Entries.{is_held}
-use Rattle.booking.specs.declared.Answer.{Answer}
-use Rattle.booking.specs.declared.Answer.TheVariants.{Refused}
+use Rattle.booking.specs.Answers.{Answer}
 use Rattle.booking.specs.Booking.{Input, Result, file_of, ledger_of, book_refusal, is_booked, ledger_after, added_by, refused_result, accepted_result, result_of, book_result}
 use Rattle.booking.proofs.Added.{length_booked, added_count}
 use Rattle.booking.proofs.Steps.{refused_leaves, used_accepted, run_accepted}
@@ -25,10 +24,10 @@ use Rattle.accepted_entries.specs.InsideAccepted.{Leaves}
 use Rattle.book.specs.InsideBook.{Meets}
 
 module _ (i : Input) where
-  pub refuses : (number line : ℕ) → book_refusal i ≡ outcome number line → (number ≡ 0 → ⊥) → Meets i (Refused number line) i.run
+  pub refuses : {r : Outcome} → book_refusal i ≡ r → (r.number ≡ 0 → ⊥) → Meets i (Err r) i.run
   unfolding book_result
-  refuses number line e z =
-      let no : is_booked i ≡ false = ap (λ (o : Outcome). eqb o.number 0) e ∙ ne_eqb number 0 z in
+  refuses {r} e z =
+      let no : is_booked i ≡ false = ap (λ (o : Outcome). eqb o.number 0) e ∙ ne_eqb r.number 0 z in
       record {
         answers =
             ap (λ (o : Outcome). refused_result o.number o.line) (sym e)

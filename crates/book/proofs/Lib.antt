@@ -2,4 +2,3 @@ pub mod Answers
 pub mod Archive
 pub mod FileBills
 pub mod Refusing
-pub mod Rooms

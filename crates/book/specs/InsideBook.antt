@@ -1,14 +1,13 @@
--- What the steps of Book are lent, rest on and leave.
+-- What the steps of Book rest on and leave.
 -- Assumes nothing.
-use Rattle.std.specs.Prelude.{◌≡◌, true, false, List, ℕ, ◌+◌, ◌*◌, ◌≤◌, ℤ, length}
+use Rattle.std.specs.Prelude.{◌≡◌, true, false, List, ◌+◌}
 use Rattle.records.specs.Text.{lines_of}
 use Rattle.refusals.specs.Refusals.{first_refusal}
 use Rattle.refusals.specs.Check.{test_refusals, settings_fit, is_too_large}
 use Rattle.entries.specs.declared.Entry.{Entry}
 use Rattle.soundness.specs.Sound.{is_sound}
-use Rattle.booking.specs.declared.Answer.{Answer}
+use Rattle.booking.specs.Answers.{Answer}
 use Rattle.booking.specs.Booking.{Input, result_of, Booked}
-use Rattle.file_bills.specs.InsideReading.{BillRoom}
 
 -- what Book is to meet; the used count afterwards is the one before and the entries added
 abbrev pub Meets : Input → Answer → List Entry → Type 0
@@ -28,11 +27,3 @@ pub record Opened (i : Input) : Type 0 where
 pub record Tested (i : Input) : Type 0 where
   pub opened : Opened i
   pub passes : (first_refusal (test_refusals i.settings.retailer i.settings.distributors (lines_of i.file))).number ≡ 0
-
--- room for the columns of some lines, and for their TH and OC
-pub record FileRoom (n : ℕ) (columns charges usages words : List ℕ) (amounts : List ℤ) (references at : List ℕ) : Type 0 where
-  pub columns_length : length columns ≡ 8 * length charges
-  pub usages_length : length usages ≡ length charges
-  pub few : n ≤ length charges
-  pub most : length charges ≤ 4096
-  pub bills : BillRoom n words amounts references at

@@ -5,7 +5,7 @@
 use mathlib.Core.Path.{◌≡◌, refl, sym, ap, subst}
 use mathlib.Core.Logic.{inl, inr, ⊎_elim}
 use mathlib.Core.Bool.{Bool, true, false, not, ◌&&◌, cond, true≢false}
-use mathlib.Core.Option.{Option, none, some}
+use Rattle.std.specs.Prelude.{Option, Some, None}
 use mathlib.Core.List.{List, [], ◌∷◌, map}
 use Prim.Native.Nat.{ℕ, suc, ◌^◌, ◌≤◌, ◌<◌}
 use native.Mathlib.Omega.{arith}
@@ -26,15 +26,15 @@ use Rattle.entries.specs.declared.Entry.{Entry}
 use Rattle.soundness.specs.Sound.{entry_fits, opposite}
 use Rattle.soundness.specs.Meaning.{EntryFits}
 use Rattle.soundness.proofs.Meaning.{entry_means}
-use Rattle.booking.specs.Booking.{cancels, entry, file_entry, id_or_zero, named_entry, cancel_named, first_cancel, is_unnamed, is_unopposed, first_unnamed, first_unopposed, is_stored, has_stored, Input, file_of, ledger_of, is_booked}
+use Rattle.booking.specs.Booking.{entry, file_entry, id_or_zero, named_entry, cancel_named, first_cancel, is_unnamed, is_unopposed, first_unnamed, first_unopposed, is_stored, has_stored, Input, file_of, ledger_of, is_booked}
 use Rattle.booking.specs.InsidePasses.{Key, same_key, key_of, keys, bill_fits, is_opposed, AllNamed, Passes}
 use Rattle.booking.specs.Acceptable.{no_bill, bill_at}
 use Rattle.booking.proofs.Accepting.{LedgerPasses, search_on, accepted_unrefused}
 
 -- ---- tests 39 and 40
 named_opposed : (c : Bill) (e : Option Entry) → is_unnamed e ≡ false → is_unopposed c e ≡ false → is_opposed c e ≡ true
-named_opposed c none n o = absurd (true≢false n)
-named_opposed c (some e) n o = not-false (opposite (entry c 4) e) o
+named_opposed c None n o = absurd (true≢false n)
+named_opposed c (Some e) n o = not-false (opposite (entry c 4) e) o
 
 pub all_named : (l : List Entry) (bs : List Bill) → first_cancel (λ l c. is_unnamed (named_entry c l)) l bs ≡ length bs → first_cancel (λ l c. is_unopposed c (named_entry c l)) l bs ≡ length bs
     → AllNamed l (filter (λ b. b.cancel) bs)
@@ -91,9 +91,9 @@ all_at : {A : Type 0} (p : A → Bool) (other : A) (xs : List A) → ((k : ℕ) 
 all_at p other [] h = tt
 all_at p other (x ∷ xs) h = rw (h 0 (omega arith)) (all_at p other xs (λ k l. h (suc k) (omega arith)))
 
-small_reference : (r : Option ℕ) → ((n : ℕ) → r ≡ some n → n < 10 ^ 15) → id_or_zero r < 10 ^ 15
-small_reference none h = omega arith
-small_reference (some n) h = h n refl
+small_reference : (r : Option ℕ) → ((n : ℕ) → r ≡ Some n → n < 10 ^ 15) → id_or_zero r < 10 ^ 15
+small_reference None h = omega arith
+small_reference (Some n) h = h n refl
 
 cancels_small : (t : Bool) (n : ℕ) → n < 10 ^ 15 → cond t n 0 < 10 ^ 15
 cancels_small true n h = h

@@ -2,7 +2,7 @@
 -- Assumes nothing.
 use mathlib.Core.Path.{◌≡◌, refl}
 use mathlib.Core.Bool.{Bool, true, false}
-use mathlib.Core.Option.{Option, none, some}
+use Rattle.std.specs.Prelude.{Option, Some, None}
 use mathlib.Core.List.{List, [], ◌∷◌, map}
 use Prim.Native.Nat.{ℕ, ◌+◌}
 use native.Mathlib.Omega.{arith}
@@ -43,10 +43,10 @@ period header id from to charge cancel reference =
 
 -- an original of January, day 0 to day 30, and a cancel of the record that a Reference ID refers to
 abbrev january : ℕ → ℕ → ℤ → Bill
-january header id charge = period header id 0 30 charge false none
+january header id charge = period header id 0 30 charge false None
 
 abbrev january_cancel : ℕ → ℕ → ℕ → ℤ → Bill
-january_cancel header id reference charge = period header id 0 30 charge true (some reference)
+january_cancel header id reference charge = period header id 0 30 charge true (Some reference)
 
 abbrev one_time_charge : ℕ → ℕ → ℤ → Bill
 one_time_charge header id charge =
@@ -62,7 +62,7 @@ one_time_charge header id charge =
       charge = charge;
       usage = pos 0;
       cancel = false;
-      reference = none;
+      reference = None;
     }
 
 -- a file's TH and OC, with the line of each
@@ -89,7 +89,7 @@ file_again = file 6 (negsuc 9999) (january_cancel 6 7 2 (negsuc 9999) ∷ []) (3
 
 -- C brings 31 January to 27 February, 50.00
 abbrev file_c : BillFile
-file_c = file 8 (pos 5000) (period 8 9 30 57 (pos 5000) false none ∷ []) (3 ∷ [])
+file_c = file 8 (pos 5000) (period 8 9 30 57 (pos 5000) false None ∷ []) (3 ∷ [])
 
 -- FH and one OC
 abbrev file_charge : BillFile

@@ -2,7 +2,7 @@
 -- Assumes nothing.
 use mathlib.Core.Path.{◌≡◌, sym, ap, ◌∙◌, subst⁻¹}
 use mathlib.Core.Bool.{Bool, true, false, cond, false≢true}
-use mathlib.Core.Option.{some}
+use Rattle.std.specs.Prelude.{Some}
 use mathlib.Core.List.{List, [], ◌∷◌, ◌++◌}
 use Prim.Native.Nat.{ℕ, suc, ◌<◌}
 use native.Mathlib.Omega.{arith}
@@ -25,10 +25,10 @@ pub record NamedAt (c : Bill) (l : List Entry) : Type 0 where
 
 -- the first entry is named, or not
 first_named : (c : Bill) (e : Entry) (l : List Entry) → names_entry c e ≡ true → is_opposed c (named_entry c (e ∷ l)) ≡ opposite (entry c 4) e
-first_named c e l n = ap (λ (b : Bool). is_opposed c (cond b (some e) (named_entry c l))) n
+first_named c e l n = ap (λ (b : Bool). is_opposed c (cond b (Some e) (named_entry c l))) n
 
 later_named : (c : Bill) (e : Entry) (l : List Entry) → names_entry c e ≡ false → is_opposed c (named_entry c (e ∷ l)) ≡ is_opposed c (named_entry c l)
-later_named c e l n = ap (λ (b : Bool). is_opposed c (cond b (some e) (named_entry c l))) n
+later_named c e l n = ap (λ (b : Bool). is_opposed c (cond b (Some e) (named_entry c l))) n
 
 pub named_at : (c : Bill) (l : List Entry) → is_opposed c (named_entry c l) ≡ true → NamedAt c l
 named_at c [] t = absurd (false≢true t)

@@ -8,7 +8,7 @@ use mathlib.Core.Path.{◌≡◌, refl, sym, ap, ◌∙◌, subst}
 use mathlib.Core.Logic.Iff
 use mathlib.Core.Logic.{◌↔◌}
 use mathlib.Core.Bool.{Bool, true, false, not, ◌&&◌, ◌||◌, cond, true≢false}
-use mathlib.Core.Option.{Option, some}
+use Rattle.std.specs.Prelude.{Option, Some}
 use mathlib.Core.List.{List, [], ◌∷◌}
 use Prim.Native.Nat.{ℕ, zero, suc, ◌<◌}
 use native.Mathlib.Omega.{arith}
@@ -138,7 +138,7 @@ keys_stay c l k i j a b e f =
     (sym (same_sender c l i) ∙ e ∙ same_sender c l j)
     (sym (same_id c l i) ∙ f ∙ same_id c l j)
 
-refers : (r : Option ℕ) (m n : ℕ) → r ≡ some m → r ≡ some n → m ≡ n
+refers : (r : Option ℕ) (m n : ℕ) → r ≡ Some m → r ≡ Some n → m ≡ n
 refers r m n e f = cc
 
 pub names_one : (c : Bill) (l : List Entry) → KeysOnce l → NamesOne c l
@@ -258,13 +258,13 @@ found_at : (c : Bill) (l : List Entry) → (is_unnamed (named_entry c l) ≡ fal
 found_at c [] = (λ e. absurd (true≢false e), λ h. absurd (omega (arith, h.1)))
 found_at c (x ∷ l) = (λ e. to (found_at c l).0 (names_entry c x) refl e, λ h. from h.0 (found_at c l).1 h.1 h.2)
   where
-    to : (is_unnamed (named_entry c l) ≡ false → Found asks_nothing c l) → (t : Bool) → names_entry c x ≡ t → is_unnamed (cond t (some x) (named_entry c l)) ≡ false → Found asks_nothing c (x ∷ l)
+    to : (is_unnamed (named_entry c l) ≡ false → Found asks_nothing c l) → (t : Bool) → names_entry c x ≡ t → is_unnamed (cond t (Some x) (named_entry c l)) ≡ false → Found asks_nothing c (x ∷ l)
     to rest true p e = (0, omega arith, p, refl)
     to rest false p e = let r = rest e in (suc r.0, omega (arith, r.1), r.2, refl)
 
     from : (j : ℕ) → (Found asks_nothing c l → is_unnamed (named_entry c l) ≡ false) → j < suc (length l)
-        → names_entry c (entry_of (x ∷ l) j) ≡ true → is_unnamed (cond (names_entry c x) (some x) (named_entry c l)) ≡ false
-    from zero rest h e = ap (λ (b : Bool). is_unnamed (cond b (some x) (named_entry c l))) e
+        → names_entry c (entry_of (x ∷ l) j) ≡ true → is_unnamed (cond (names_entry c x) (Some x) (named_entry c l)) ≡ false
+    from zero rest h e = ap (λ (b : Bool). is_unnamed (cond b (Some x) (named_entry c l))) e
     from (suc j) rest h e = cases (names_entry c x) (λ t. rw t) (λ t. rw t (rest (j, omega arith, e, refl)))
 
 pub test_39 : (l : List Entry) (file : BillFile) → KeysOnce l → (first_unnamed l file ≡ length file.bills) ↔ EachNamed asks_nothing l file.bills
@@ -289,14 +289,14 @@ opposed_at c (x ∷ l) one = (
     rest_one i k a b = one (suc i) (suc k) (omega arith) (omega arith)
 
     to : (fails_either c (named_entry c l) ≡ false → Found asks_opposite c l) → (t o : Bool) → names_entry c x ≡ t → opposite (entry c 4) x ≡ o
-        → fails_either c (cond t (some x) (named_entry c l)) ≡ false → Found asks_opposite c (x ∷ l)
+        → fails_either c (cond t (Some x) (named_entry c l)) ≡ false → Found asks_opposite c (x ∷ l)
     to rest true true p q e = (0, omega arith, p, q)
     to rest true false p q e = absurd (true≢false (sym (ap not q) ∙ e))
     to rest false o p q e = let r = rest e in (suc r.0, omega (arith, r.1), r.2, r.3)
 
     from : (j : ℕ) → (Found asks_opposite c l → fails_either c (named_entry c l) ≡ false) → j < suc (length l)
-        → names_entry c (entry_of (x ∷ l) j) ≡ true → opposite (entry c 4) (entry_of (x ∷ l) j) ≡ true → fails_either c (cond (names_entry c x) (some x) (named_entry c l)) ≡ false
-    from zero rest h e f = ap (λ (b : Bool). fails_either c (cond b (some x) (named_entry c l))) e ∙ ap not f
+        → names_entry c (entry_of (x ∷ l) j) ≡ true → opposite (entry c 4) (entry_of (x ∷ l) j) ≡ true → fails_either c (cond (names_entry c x) (Some x) (named_entry c l)) ≡ false
+    from zero rest h e f = ap (λ (b : Bool). fails_either c (cond b (Some x) (named_entry c l))) e ∙ ap not f
     from (suc j) rest h e f =
         cases (names_entry c x)
         (λ t. absurd (one 0 (suc j) (omega arith) h t e))

@@ -2,7 +2,7 @@
 -- Assumes nothing.
 use mathlib.Core.Path.{◌≡◌, refl, sym, ap, ◌∙◌, subst}
 use mathlib.Core.Bool.{Bool, true, false, not, ◌&&◌, ◌||◌, cond, and-false, false≢true}
-use mathlib.Core.Option.{Option, none, some}
+use Rattle.std.specs.Prelude.{Option, Some, None}
 use mathlib.Core.List.Memᴰ
 use mathlib.Core.List.{List, [], ◌∷◌, ◌++◌, append-nil, Memᴰ}
 use mathlib.Core.Logic.{⊎_elim}
@@ -44,8 +44,8 @@ uncancelled_original bs b e =
 -- ════ what tests 39 and 40 give of a cancel at its turn: it names one that is live or held, with the opposite amounts
 
 abbrev pub is_opposing : Bill → Option Standing → Bool
-is_opposing c none = false
-is_opposing c (some s) = opposes c s.bill
+is_opposing c None = false
+is_opposing c (Some s) = opposes c s.bill
 
 abbrev pub HasOpposite : List Standing → Bill → Type 0
 HasOpposite bs c = is_opposing c (named_standing c bs) ≡ true

@@ -5,7 +5,7 @@
 use mathlib.Core.Path.{◌≡◌, refl, ap}
 use mathlib.Core.Logic.{◌↔◌, ◌⊎◌, inl, inr, ⊎_elim}
 use mathlib.Core.Bool.{Bool, true, false, ◌&&◌, ◌||◌, false≢true}
-use mathlib.Core.Option.{Option, none, some}
+use Rattle.std.specs.Prelude.{Option, Some, None}
 use Prim.Native.Nat.{ℕ, ◌≤◌}
 use native.Mathlib.Omega.{arith}
 use borrow.Author.Tests.{eqb-true, eq-eqb}
@@ -20,9 +20,9 @@ use Rattle.booking.specs.Acceptable.{Names}
 use Rattle.booking.specs.InsideKept.{Paired}
 use Rattle.booking.proofs.Opposites.{opposite_of_lem}
 
-refers_means : (r : Option ℕ) (n : ℕ) → (refers_to r n ≡ true) ↔ (r ≡ some n)
-refers_means none n = (λ t. absurd (false≢true t), λ e. let z : ◌≡◌ {A = ℕ} 0 1 = cc in absurd (omega arith))
-refers_means (some m) n = (λ t. ap some (eqb-true m n t), λ e. eq-eqb m n (cc))
+refers_means : (r : Option ℕ) (n : ℕ) → (refers_to r n ≡ true) ↔ (r ≡ Some n)
+refers_means None n = (λ t. absurd (false≢true t), λ e. let z : ◌≡◌ {A = ℕ} 0 1 = cc in absurd (omega arith))
+refers_means (Some m) n = (λ t. ap Some (eqb-true m n t), λ e. eq-eqb m n (cc))
 
 standing_means : (e : Entry) → (is_live_or_held e ≡ true) ↔ ((e.state ≡ 1) ⊎ (e.state ≡ 2))
 standing_means e = (go (is_live e) (is_held e) refl refl, λ h. ⊎_elim live held h)

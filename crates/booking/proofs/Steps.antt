@@ -12,8 +12,8 @@ use lib.Seq.{take-append_seam, drop-append_seam}
 use Rattle.lists.specs.Selections.{count}
 use Rattle.lists.proofs.Selections.{cases}
 use Rattle.entries.specs.Entries.{is_held}
-use Rattle.booking.specs.declared.Answer.{Answer}
-use Rattle.booking.specs.declared.Answer.TheVariants.{Refused, Accepted}
+use Rattle.booking.specs.Answers.{Answer}
+use Rattle.std.specs.Prelude.{Ok, Err}
 use Rattle.booking.specs.Booking.{Input, file_of, ledger_of, book_refusal, is_booked, ledger_after, added_by, Result, refused_result, accepted_result, result_of, book_result, used_after, run_after}
 use Rattle.booking.specs.InsidePasses.{Passes}
 use Rattle.booking.specs.Guarantee.{is_accepted}
@@ -40,21 +40,21 @@ module _ (i : Input) where
       go false added held e = e
 
   -- the result leaves no choice of the answer: a refusal's number isn't 0, and an accepted file adds an entry at least
-  pub answer_when_booked : (answer : Answer) → result_of answer ≡ book_result i → is_booked i ≡ true → answer ≡ Accepted (length (added_by i)) (count is_held (added_by i))
+  pub answer_when_booked : (answer : Answer) → result_of answer ≡ book_result i → is_booked i ≡ true → answer ≡ Ok (record { added = length (added_by i); held = count is_held (added_by i) })
   unfolding book_result
   answer_when_booked answer e b = go answer (e ∙ when_true (is_booked i) (accepted_result (length (added_by i)) (count is_held (added_by i))) _ b)
     where
-      go : (answer : Answer) → result_of answer ≡ accepted_result (length (added_by i)) (count is_held (added_by i)) → answer ≡ Accepted (length (added_by i)) (count is_held (added_by i))
-      go (Accepted added held) e = λ t. Accepted (e t).added (e t).held
-      go (Refused number line) e = absurd (omega (arith, ap (λ (r : Result). r.added) e, added_count (ledger_of i) (file_of i)))
+      go : (answer : Answer) → result_of answer ≡ accepted_result (length (added_by i)) (count is_held (added_by i)) → answer ≡ Ok (record { added = length (added_by i); held = count is_held (added_by i) })
+      go (Ok accepted) e = λ t. Ok (record { added = (e t).added; held = (e t).held })
+      go (Err refusal) e = absurd (omega (arith, ap (λ (r : Result). r.added) e, added_count (ledger_of i) (file_of i)))
 
-  pub answer_when_refused : (answer : Answer) → result_of answer ≡ book_result i → is_booked i ≡ false → answer ≡ Refused (book_refusal i).number (book_refusal i).line
+  pub answer_when_refused : (answer : Answer) → result_of answer ≡ book_result i → is_booked i ≡ false → answer ≡ Err (book_refusal i)
   unfolding book_result
   answer_when_refused answer e b = go answer (e ∙ when_false (is_booked i) _ (refused_result (book_refusal i).number (book_refusal i).line) b)
     where
-      go : (answer : Answer) → result_of answer ≡ refused_result (book_refusal i).number (book_refusal i).line → answer ≡ Refused (book_refusal i).number (book_refusal i).line
-      go (Accepted added held) e = absurd (eqb-false (book_refusal i).number 0 b (sym (ap (λ (r : Result). r.number) e)))
-      go (Refused number line) e = λ t. Refused (e t).number (e t).line
+      go : (answer : Answer) → result_of answer ≡ refused_result (book_refusal i).number (book_refusal i).line → answer ≡ Err (book_refusal i)
+      go (Ok accepted) e = absurd (eqb-false (book_refusal i).number 0 b (sym (ap (λ (r : Result). r.number) e)))
+      go (Err refusal) e = λ t. Err (record { number = (e t).number; line = (e t).line })
 
   -- ---- the run and the used count
 

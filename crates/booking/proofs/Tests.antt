@@ -2,7 +2,7 @@
 -- Assumes nothing.
 use mathlib.Core.Path.{◌≡◌, refl, sym, ap, ◌∙◌}
 use mathlib.Core.Bool.{Bool, true, false, not, ◌&&◌, cond, false≢true}
-use mathlib.Core.Option.{some}
+use Rattle.std.specs.Prelude.{Some}
 use mathlib.Core.List.{List, [], ◌∷◌, ◌++◌, map}
 use Prim.Native.Nat.{ℕ, suc, ◌≤◌}
 use native.Mathlib.Nat.{le_trans, le_of_eq}
@@ -38,11 +38,11 @@ named_record c (e ∷ l) = cases (names_entry c e)
 opposed_now : (c : Bill) (bs : List Standing) → is_opposed c (named_entry c (map entry_now bs)) ≡ is_opposing c (named_standing c bs)
 opposed_now c [] = refl
 opposed_now c (s ∷ bs) =
-    ap (λ (x : Bool). is_opposed c (cond x (some (entry_now s)) (named_entry c (map entry_now bs)))) (names_now c s)
+    ap (λ (x : Bool). is_opposed c (cond x (Some (entry_now s)) (named_entry c (map entry_now bs)))) (names_now c s)
     ∙ go (is_uncancelled s && fits c s.bill) (opposed_now c bs)
   where
     go : (x : Bool) → is_opposed c (named_entry c (map entry_now bs)) ≡ is_opposing c (named_standing c bs)
-        → is_opposed c (cond x (some (entry_now s)) (named_entry c (map entry_now bs))) ≡ is_opposing c (cond x (some s) (named_standing c bs))
+        → is_opposed c (cond x (Some (entry_now s)) (named_entry c (map entry_now bs))) ≡ is_opposing c (cond x (Some s) (named_standing c bs))
     go true h = opposes_entry c s.bill (code s.status)
     go false h = h
 

@@ -3,7 +3,7 @@
 use mathlib.Core.Path.{◌≡◌, refl, sym, ap, ◌∙◌, subst}
 use mathlib.Core.Logic.{◌⊎◌, inl, inr, ⊎_elim}
 use mathlib.Core.Bool.{Bool, true, false, ◌&&◌, cond, false≢true}
-use mathlib.Core.Option.{Option, none, some}
+use Rattle.std.specs.Prelude.{Option, Some, None}
 use mathlib.Core.List.{List, [], ◌∷◌, ◌++◌, map, append_assoc, append-nil}
 use Prim.Native.Nat.{ℕ, ◌≤◌}
 use native.Mathlib.Nat.{le_trans}
@@ -73,8 +73,8 @@ key_same k m e =
     subst (λ (x : Key). same_key k x ≡ true) e (rw (is_true (eqb k.0 k.0) (eqb_refl k.0), is_true (eqb k.1 k.1) (eqb_refl k.1)))
 
 refers : (o : Option ℕ) (n : ℕ) → T (refers_to o n) → id_or_zero o ≡ n
-refers none n t = absurd t
-refers (some m) n t = eqb→eq m n t
+refers None n t = absurd t
+refers (Some m) n t = eqb→eq m n t
 
 first_two : (a b c d e f g : Bool) → (a && b && c && d && e && f && g) ≡ true → T a × T b
 first_two true true c d e f g h = (tt, tt)
@@ -109,8 +109,8 @@ once_turn bs b rest o = subst Once (sym (ap (λ (l : List Bill). l ++ rest) (bil
 
 -- the earliest record that it fits of those that are live or held
 abbrev pub named_standing : Bill → List Standing → Option Standing
-named_standing c [] = none
-named_standing c (s ∷ bs) = cond (is_uncancelled s && fits c s.bill) (some s) (named_standing c bs)
+named_standing c [] = None
+named_standing c (s ∷ bs) = cond (is_uncancelled s && fits c s.bill) (Some s) (named_standing c bs)
 
 -- that record, and those before and after it, which stay as they are
 pub record Named (c : Bill) (bs : List Standing) : Type 0 where
@@ -119,13 +119,13 @@ pub record Named (c : Bill) (bs : List Standing) : Type 0 where
   pub after : List Standing
   pub stands : bs ≡ before ++ at ∷ after
   pub leaves : cancel_fitting c bs ≡ before ++ standing at.bill cancelled ∷ after
-  pub named : named_standing c bs ≡ some at
+  pub named : named_standing c bs ≡ Some at
   pub uncancelled : is_uncancelled at ≡ true
   pub fitting : fits c at.bill ≡ true
 
 pub record NoneNamed (c : Bill) (bs : List Standing) : Type 0 where
   pub leaves : cancel_fitting c bs ≡ bs
-  pub named : named_standing c bs ≡ none
+  pub named : named_standing c bs ≡ None
 
 pub named_or_none : (c : Bill) (bs : List Standing) → Named c bs ⊎ NoneNamed c bs
 named_or_none c [] = inr (record { leaves = refl; named = refl })

@@ -2,7 +2,7 @@
 -- says that exactly these calls are accepted.
 -- Assumes nothing.
 use Rattle.std.specs.Prelude.{ℕ, ◌+◌, ◌≤◌, ◌<◌, ◌≡◌, ◌⊎◌, true, false, List, pos, neg_ℤ, length, get_or}
-use Rattle.std.proofs.Math.Option.{none, some}
+use Rattle.std.specs.Prelude.{Some, None}
 use Rattle.records.specs.Text.{lines_of}
 use Rattle.refusals.specs.Check.{settings_fit, is_too_large}
 use Rattle.bill_files.specs.Passing.{Passing}
@@ -27,7 +27,7 @@ no_bill =
       charge = pos 0;
       usage = pos 0;
       cancel = false;
-      reference = none;
+      reference = None;
     }
 
 abbrev pub bill_at : List Bill → ℕ → Bill
@@ -36,7 +36,7 @@ bill_at bs k = get_or bs k no_bill
 -- 39: "a Y record's Reference ID (an empty one names none) names an entry of the same sender, commodity, kind, site and (for a period) days, live or
 -- held"
 pub record Names (c : Bill) (e : Entry) : Type 0 where
-  pub reference : c.reference ≡ some e.id
+  pub reference : c.reference ≡ Some e.id
   pub sender : c.sender ≡ e.sender
   pub commodity : c.commodity ≡ e.commodity
   pub kind : c.kind ≡ e.kind

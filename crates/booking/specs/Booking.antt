@@ -1,7 +1,7 @@
 -- Booking: what Book answers, and the ledger that it leaves. Document 01, "The ledger" and "Operations".
 -- Assumes nothing.
 use Rattle.std.specs.Prelude.{ℕ, suc, ◌+◌, ◌≡◌, Bool, true, false, not, ◌&&◌, ◌||◌, cond, List, [], ◌∷◌, ◌++◌, eqb, ltb, pos, length, get_or, take, drop}
-use Rattle.std.proofs.Math.Option.{Option, none, some}
+use Rattle.std.specs.Prelude.{Option, Some, None}
 use Rattle.lists.specs.First.{first_where}
 use Rattle.lists.specs.Selections.{filter, any, count}
 use Rattle.calendar.specs.Periods.{shares_day}
@@ -13,8 +13,8 @@ use Rattle.bill_files.specs.Accepted.{Bill, BillFile, bill_file}
 use Rattle.entries.specs.declared.Entry.{Entry}
 use Rattle.entries.specs.Entries.{is_live, is_held, is_period, period, in_state}
 use Rattle.soundness.specs.Sound.{is_sound, same_subject, opposite, is_live_period}
-use Rattle.booking.specs.declared.Answer.{Answer}
-use Rattle.booking.specs.declared.Answer.TheVariants.{Refused, Accepted}
+use Rattle.booking.specs.Answers.{Answer}
+use Rattle.std.specs.Prelude.{Ok, Err}
 
 -- ════ a file's entries
 
@@ -26,8 +26,8 @@ abbrev pub originals : BillFile → List Bill
 originals file = filter (λ b. not b.cancel) file.bills
 
 abbrev pub id_or_zero : Option ℕ → ℕ
-id_or_zero none = 0
-id_or_zero (some n) = n
+id_or_zero None = 0
+id_or_zero (Some n) = n
 
 -- a TH or OC in a state; a cancel, state 4, has the Record ID it cancels
 abbrev pub entry : Bill → ℕ → Entry
@@ -67,8 +67,8 @@ file_entry file =
 
 -- "an empty one names none"
 abbrev pub refers_to : Option ℕ → ℕ → Bool
-refers_to none n = false
-refers_to (some m) n = eqb m n
+refers_to None n = false
+refers_to (Some m) n = eqb m n
 
 abbrev pub is_live_or_held : Entry → Bool
 is_live_or_held e = is_live e || is_held e
@@ -80,8 +80,8 @@ names_entry c e = is_live_or_held e && refers_to c.reference e.id && same_subjec
 
 -- the earliest such entry
 abbrev pub named_entry : Bill → List Entry → Option Entry
-named_entry c [] = none
-named_entry c (e ∷ l) = cond (names_entry c e) (some e) (named_entry c l)
+named_entry c [] = None
+named_entry c (e ∷ l) = cond (names_entry c e) (Some e) (named_entry c l)
 
 -- "A cancel turns the record that it names into state 3."
 abbrev pub cancel_named : Bill → List Entry → List Entry
@@ -133,13 +133,13 @@ first_cancel fails l (b ∷ bs) = cond (b.cancel && fails l b) 0 (suc (first_can
 
 -- 39: it names an entry "live or held before this file, that no earlier Y record of the file names"
 abbrev pub is_unnamed : Option Entry → Bool
-is_unnamed none = true
-is_unnamed (some e) = false
+is_unnamed None = true
+is_unnamed (Some e) = false
 
 -- 40: "its charge and usage totals (for an OC, its Charge Amount) are the opposites of that entry's."
 abbrev pub is_unopposed : Bill → Option Entry → Bool
-is_unopposed c none = false
-is_unopposed c (some e) = not (opposite (entry c 4) e)
+is_unopposed c None = false
+is_unopposed c (Some e) = not (opposite (entry c 4) e)
 
 unfoldable pub first_unnamed : List Entry → BillFile → ℕ
 first_unnamed l file = first_cancel (λ l c. is_unnamed (named_entry c l)) l file.bills
@@ -245,8 +245,8 @@ accepted_result added held = record { number = 0; line = 0; added = added; held 
 
 -- of each case of the answer; an accepted file has number 0
 abbrev pub result_of : Answer → Result
-result_of (Refused number line) = refused_result number line
-result_of (Accepted added held) = accepted_result added held
+result_of (Err refusal) = refused_result refusal.number refusal.line
+result_of (Ok accepted) = accepted_result accepted.added accepted.held
 
 unfoldable pub book_result : Input → Result
 book_result i = cond (is_booked i) (accepted_result (length (added_by i)) (count is_held (added_by i))) (refused_result (book_refusal i).number (book_refusal i).line)

@@ -6,7 +6,7 @@ use Rattle.lists.specs.Selections.{filter}
 use Rattle.records.specs.Text.{lines_of}
 use Rattle.bill_files.specs.Accepted.{BillFile, bill_file}
 use Rattle.entries.specs.declared.Entry.{Entry}
-use Rattle.booking.specs.declared.Answer.{Answer}
+use Rattle.booking.specs.Answers.{Answer}
 use Rattle.booking.specs.Booking.{input_of, Booked}
 use Rattle.booking.specs.Guarantee.{is_accepted, Guarantee}
 

@@ -10,7 +10,7 @@ use Rattle.calendar.specs.Periods.{shares_day}
 use Rattle.bill_files.specs.Accepted.{Bill, BillFile}
 use Rattle.entries.specs.declared.Entry.{Entry}
 use Rattle.entries.specs.Entries.{is_live, is_held}
-use Rattle.booking.specs.declared.Answer.{Answer}
+use Rattle.booking.specs.Answers.{Answer}
 use Rattle.booking.specs.Booking.{Input, file_of, cancels, originals, refers_to, entry, result_of, Booked}
 
 -- ════ a list of Book calls

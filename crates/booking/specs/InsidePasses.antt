@@ -2,7 +2,7 @@
 -- `accepted_passes` (proofs/AcceptedFile) draws it from Book's answer.
 -- Assumes nothing.
 use Rattle.std.specs.Prelude.{ℕ, ◌+◌, ◌≤◌, ◌≡◌, Bool, true, false, not, ◌&&◌, List, [], ◌∷◌, map, T, eqb, length}
-use Rattle.std.proofs.Math.Option.{Option, none, some}
+use Rattle.std.specs.Prelude.{Option, Some, None}
 use Rattle.lists.specs.Selections.{sum}
 use Rattle.lists.specs.InsideSelections.{all, distinct}
 use Rattle.bill_files.specs.Accepted.{Bill, BillFile}
@@ -33,8 +33,8 @@ bill_fits b = entry_fits (entry b 1) && entry_fits (entry b 2) && entry_fits (en
 
 -- the entry that a cancel names, if it names one, has the opposite amounts
 abbrev pub is_opposed : Bill → Option Entry → Bool
-is_opposed c none = false
-is_opposed c (some e) = opposite (entry c 4) e
+is_opposed c None = false
+is_opposed c (Some e) = opposite (entry c 4) e
 
 -- each cancel in turn names an entry, the earliest that fits, and that has the opposite amounts
 abbrev pub AllNamed : List Entry → List Bill → Type 0

@@ -1,4 +1,5 @@
 pub mod Acceptable
+pub mod Answers
 pub mod Booking
 pub mod Calls
 pub mod Guarantee

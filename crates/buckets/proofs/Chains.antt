@@ -20,6 +20,9 @@ use Rattle.lists.proofs.Below.{first_is, none_is_end}
 use Rattle.buckets.specs.InsideBuckets.{bucket_of}
 use Rattle.buckets.specs.InsideChains.{bucket_at, Latest, Headed, Linked, ChainRoom, Chained, Only, Walked}
 
+less_one : (i : ℕ) → i + 1 - 1 ≡ i
+less_one i = omega arith
+
 -- ---- one place more
 module _ (size : ℕ) (value : ℕ → ℕ) where
   latest_kept : (b i k : ℕ) → Latest size value b i k → (bucket_at size value i ≡ b → ⊥) → Latest size value b (i + 1) k
@@ -32,9 +35,6 @@ module _ (size : ℕ) (value : ℕ → ℕ) where
       after : (p : ℕ) → p < i + 1 → bucket_at size value p ≡ b → Dec (p < i) → p < k
       after p h s (yes r) = H.after p r s
       after p h s (no r) = let z : p ≡ i = omega (arith, r) in absurd (none (subst (λ (q : ℕ). bucket_at size value q ≡ b) z s))
-
-  less_one : (i : ℕ) → i + 1 - 1 ≡ i
-  less_one i = omega arith
 
   latest_here : (b i : ℕ) → bucket_at size value i ≡ b → Latest size value b (i + 1) (i + 1)
   latest_here b i s = record {
@@ -128,35 +128,37 @@ module _ (f : ℕ → Bool) (size : ℕ) (value : ℕ → ℕ) (n x : ℕ) (only
       go true e = absurd (out (ap (bucket_of size) (only p h e)))
       go false e = e
 
-  pub walk_start : (k : ℕ) → Latest size value (bucket_of size x) n k → Walked f size value n x k n
-  walk_start k H = record {
-    within = H.within;
-    same = H.same;
-    low = H.within;
-    high = le_refl n;
-    holds = λ h. absurd (omega arith);
-    none = λ p l h. outside p h (λ s. let z : p < k = H.after p h s in omega arith);
-  }
+  pub walk_start : (heads : List ℕ) → Headed size value n heads → {at : ℕ} → at ≡ get_or heads (bucket_of size x) 0 → Walked f size value n x at n
+  walk_start heads H {at} e =
+      let L = subst (Latest size value (bucket_of size x) n) (sym e) (H (bucket_of size x)) in
+      record {
+        within = L.within;
+        same = L.same;
+        low = L.within;
+        high = le_refl n;
+        holds = λ h. absurd (omega arith);
+        none = λ p l h. outside p h (λ s. let z : p < at = L.after p h s in omega arith);
+      }
 
-  module _ (k best : ℕ) (W : Walked f size value n x k best) where
-    pub walk_more : (links : List ℕ) → Linked size value n links → 0 < k → Walked f size value n x (get_or links (k - 1) 0) (cond (f (k - 1)) (k - 1) best)
-    walk_more links L some = go (f (k - 1)) refl
+  module _ (here best : ℕ) (W : Walked f size value n x (here + 1) best) where
+    passed_one : (links : List ℕ) → Linked size value n links → Walked f size value n x (get_or links here 0) (cond (f here) here best)
+    passed_one links L = go (f here) refl
       where
-        next : Latest size value (bucket_at size value (k - 1)) (k - 1) (get_or links (k - 1) 0)
-        next = L (k - 1) (omega (arith, W.within))
+        next : Latest size value (bucket_at size value here) here (get_or links here 0)
+        next = L here (omega (arith, W.within))
 
-        own : bucket_at size value (k - 1) ≡ bucket_of size x
-        own = W.same some
+        own : bucket_at size value here ≡ bucket_of size x
+        own = ap (bucket_at size value) (sym (less_one here)) ∙ W.same (omega arith)
 
-        skipped : (p : ℕ) → get_or links (k - 1) 0 ≤ p → p < k - 1 → f p ≡ false
-        skipped p l h = outside p (omega (arith, W.within)) (λ s. let z : p < get_or links (k - 1) 0 = next.after p h (s ∙ sym own) in omega arith)
+        skipped : (p : ℕ) → get_or links here 0 ≤ p → p < here → f p ≡ false
+        skipped p l h = outside p (omega (arith, W.within)) (λ s. let z : p < get_or links here 0 = next.after p h (s ∙ sym own) in omega arith)
 
-        passed : f (k - 1) ≡ false → (p : ℕ) → get_or links (k - 1) 0 ≤ p → p < best → Dec (p < k - 1) → Dec (k - 1 < p) → f p ≡ false
+        passed : f here ≡ false → (p : ℕ) → get_or links here 0 ≤ p → p < best → Dec (p < here) → Dec (here < p) → f p ≡ false
         passed e p l h (yes r) s = skipped p l r
         passed e p l h (no r) (yes s) = W.none p (omega arith) h
-        passed e p l h (no r) (no s) = let z : p ≡ k - 1 = omega (arith, r, s) in subst (λ (q : ℕ). f q ≡ false) (sym z) e
+        passed e p l h (no r) (no s) = let z : p ≡ here = omega (arith, r, s) in subst (λ (q : ℕ). f q ≡ false) (sym z) e
 
-        go : (t : Bool) → f (k - 1) ≡ t → Walked f size value n x (get_or links (k - 1) 0) (cond t (k - 1) best)
+        go : (t : Bool) → f here ≡ t → Walked f size value n x (get_or links here 0) (cond t here best)
         go true e = record {
           within = omega (arith, next.within, W.within);
           same = λ l. next.same l ∙ own;
@@ -171,10 +173,18 @@ module _ (f : ℕ → Bool) (size : ℕ) (value : ℕ → ℕ) (n x : ℕ) (only
           low = omega (arith, next.within, W.low);
           high = W.high;
           holds = W.holds;
-          none = λ p l h. passed e p l h (dec_lt p (k - 1)) (dec_lt (k - 1) p);
+          none = λ p l h. passed e p l h (dec_lt p here) (dec_lt here p);
         }
 
-    pub walk_end : k ≡ 0 → best ≡ first_below f n
+  module _ {at best : ℕ} (W : Walked f size value n x at best) where
+    pub walk_more : (here : ℕ) → at ≡ here + 1 → (links : List ℕ) → Linked size value n links → {next : ℕ} → next ≡ get_or links here 0
+        → {best' : ℕ} → best' ≡ cond (f here) here best → Walked f size value n x next best'
+    walk_more here e links L follows kept =
+        subst (Walked f size value n x _) (sym kept)
+        (subst (λ (k : ℕ). Walked f size value n x k (cond (f here) here best)) (sym follows)
+        (passed_one here best (subst (λ (k : ℕ). Walked f size value n x k best) e W) links L))
+
+    pub walk_end : at ≡ 0 → best ≡ first_below f n
     walk_end z = go (dec_lt best n)
       where
         go : Dec (best < n) → best ≡ first_below f n

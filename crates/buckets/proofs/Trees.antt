@@ -7,10 +7,11 @@
 --     put_place, keep_place         the place whose value was searched for is put, or need not be
 --     first_no_later                the first place that has the value of m is m at most
 --     Indexing, Unrepeated          the invariants of loops that put places: with their first places; where none repeats
---     indexing_none, -more, -end; unrepeated_none, -more, -here, -end    at the start; one place more; the answer is here; at the end
+--     indexing_none, -more; unrepeated_none, -more, -here, -end    at the start; one place more; the answer is here; at the end
 -- Assumes nothing.
 use mathlib.Core.Path.{◌≡◌, refl, sym, ◌∙◌, ap, subst}
 use mathlib.Core.List.{List}
+use mathlib.Core.Logic.{∥∥₁_elim, ∥∥₁_map}
 use mathlib.Core.Bool.{Bool, true, false, cond}
 use Prim.Native.Nat.{ℕ, zero, suc, ◌+◌, ◌-◌, ◌*◌, ◌/◌, ◌%◌, ◌≤◌, ◌<◌}
 use native.Mathlib.Omega.{arith}
@@ -68,7 +69,7 @@ module _ (size : ℕ) (values : List ℕ) where
             let p = first_place values m x in
             let q : get_or values p 0 ≡ x = eqb-true _ x (first_holds (here values x) m h) in
             let leads : Leads values p = subst (λ (y : ℕ). first_place values p y ≡ p) (sym q) (none_is_end (here values x) p (first_least (here values x) m)) in
-            absurd (same_end p q (subst (λ (y : ℕ). Found size values tree y p) q (I.found p h leads)) none)
+            absurd (∥∥₁_elim (I.found p h leads) (λ z. absurd z) (λ f. same_end p q (subst (λ (y : ℕ). Found size values tree y p) q f) none))
 
   -- ---- one place more, put into the slot s, which was empty
   module _ (tree : List ℕ) (s v : ℕ) (empty : get_or tree s 0 ≡ 0) where
@@ -103,7 +104,7 @@ module _ (size : ℕ) (values : List ℕ) where
       found = λ p h l. go p h l (dec_lt p m);
     }
       where
-        go : (p : ℕ) → p < m + 1 → Leads values p → Dec (p < m) → Found size values tree (get_or values p 0) p
+        go : (p : ℕ) → p < m + 1 → Leads values p → Dec (p < m) → ∥ Found size values tree (get_or values p 0) p ∥₁
         go p h l (yes r) = I.found p r l
         go p h l (no r) = let z : p ≡ m = omega (arith, r) in absurd (follows (subst (λ (q : ℕ). Leads values q) z l))
 
@@ -146,16 +147,16 @@ module _ (size : ℕ) (values : List ℕ) where
               let q = I.rising p b (omega (arith, z, h)) l in
               omega (arith, z, q)
 
-          found : (p : ℕ) → p < m + 1 → Leads values p → Dec (p < m) → Found size values (set tree s (m + 1)) (get_or values p 0) p
-          found p h l (yes r) = found_kept tree s (m + 1) none (get_or values p 0) p (I.found p r l)
+          found : (p : ℕ) → p < m + 1 → Leads values p → Dec (p < m) → ∥ Found size values (set tree s (m + 1)) (get_or values p 0) p ∥₁
+          found p h l (yes r) = ∥∥₁_map (I.found p r l) (found_kept tree s (m + 1) none (get_or values p 0) p)
           found p h l (no r) =
               let z : p ≡ m = omega (arith, r) in
-              subst (λ (q : ℕ). Found size values (set tree s (m + 1)) (get_or values q 0) q) (sym z)
-              (record {
+              subst (λ (q : ℕ). ∥ Found size values (set tree s (m + 1)) (get_or values q 0) q ∥₁) (sym z)
+              ∣ record {
                 steps = n;
                 passed = passed_kept tree s (m + 1) none (get_or values m 0) n P;
                 here = ap (λ (k : ℕ). get_or (set tree s (m + 1)) k 0) (slot_kept tree s (m + 1) none (get_or values m 0) n P) ∙ at_slot;
-              })
+              } ∣₁
 
 -- ---- a search for x that has come to a slot, which holds `content`
 pub record Walked (size : ℕ) (values : List ℕ) (m : ℕ) (tree : List ℕ) (x slot content rest : ℕ) : Type 0 where
@@ -268,7 +269,6 @@ module _ (values : List ℕ) (m : ℕ) {first : ℕ} (e : first ≡ first_place 
 -- ---- the invariants of loops that put the first n places into an empty tree, and have come to the place i
 -- what they share
 pub record Growing (size : ℕ) (values : List ℕ) (n : ℕ) (empty tree : List ℕ) (i : ℕ) : Type 0 where
-  pub within : i ≤ n
   pub long : length tree ≡ length empty
   pub indexed : Indexed size values i tree
 
@@ -285,7 +285,7 @@ pub record Unrepeated (size : ℕ) (values : List ℕ) (n : ℕ) (empty tree : L
 
 module _ (size : ℕ) (values : List ℕ) (n : ℕ) (empty : List ℕ) where
   growing_none : ((s : ℕ) → get_or empty s 0 ≡ 0) → Growing size values n empty empty 0
-  growing_none e = record { within = omega arith; long = refl; indexed = indexed_none size values empty e }
+  growing_none e = record { long = refl; indexed = indexed_none size values empty e }
 
   pub indexing_none : ((s : ℕ) → get_or empty s 0 ≡ 0) → (leaders : List ℕ) → Indexing size values n empty leaders empty leaders 0
   indexing_none e leaders = record { grown = growing_none e; long = refl; led = λ j h. absurd (omega arith) }
@@ -297,7 +297,7 @@ module _ (size : ℕ) (values : List ℕ) (n : ℕ) (empty : List ℕ) where
   module _ {tree : List ℕ} {i : ℕ} (less : i < n) (next : List ℕ) (long : length next ≡ length tree) {first : ℕ}
       (put : Indexed size values (i + 1) next × (first ≡ first_place values i (get_or values i 0))) where
     growing_more : Growing size values n empty tree i → Growing size values n empty next (i + 1)
-    growing_more G = record { within = omega arith; long = long ∙ G.long; indexed = put.0 }
+    growing_more G = record { long = long ∙ G.long; indexed = put.0 }
 
     pub indexing_more : {leaders₀ leaders : List ℕ} → n ≤ length leaders₀ → Indexing size values n empty leaders₀ tree leaders i
         → Indexing size values n empty leaders₀ next (set leaders i first) (i + 1)
@@ -310,14 +310,8 @@ module _ (size : ℕ) (values : List ℕ) (n : ℕ) (empty : List ℕ) where
     pub unrepeated_more : first ≡ i → Unrepeated size values n empty tree i → Unrepeated size values n empty next (i + 1)
     unrepeated_more e U = record { grown = growing_more U.grown; new = below_more (λ (j : ℕ). repeats_at values j ≡ false) i U.new (place_new values i put.1 e) }
 
-    pub unrepeated_here : (first ≡ i → ⊥) → Unrepeated size values n empty tree i → first_below (repeats_at values) n ≡ i
-    unrepeated_here e U = first_is (repeats_at values) n i less (place_repeats values i put.1 e) U.new
+    pub unrepeated_here : (first ≡ i → ⊥) → Unrepeated size values n empty tree i → i ≡ first_below (repeats_at values) n
+    unrepeated_here e U = sym (first_is (repeats_at values) n i less (place_repeats values i put.1 e) U.new)
 
-  module _ {tree : List ℕ} {i : ℕ} (left : n ≤ i) where
-    pub indexing_end : {leaders₀ leaders : List ℕ} → Indexing size values n empty leaders₀ tree leaders i → Indexed size values n tree × Led values n leaders n
-    indexing_end {leaders₀} {leaders} I =
-        let end : i ≡ n = omega (arith, I.grown.within) in
-        subst (λ (m : ℕ). Indexed size values m tree × Led values n leaders m) end (I.grown.indexed, I.led)
-
-    pub unrepeated_end : Unrepeated size values n empty tree i → first_below (repeats_at values) n ≡ n
-    unrepeated_end U = none_is_end (repeats_at values) n (λ j h. U.new j (omega (arith, U.grown.within)))
+  pub unrepeated_end : {tree : List ℕ} {i : ℕ} → i ≡ n → Unrepeated size values n empty tree i → n ≡ first_below (repeats_at values) n
+  unrepeated_end end U = sym (none_is_end (repeats_at values) n (λ j h. U.new j (omega (arith, end))))

@@ -1,8 +1,13 @@
 -- Places in buckets by a value that each place has. A bucket's places hang in a chain, the latest first: all of them are there, those of equal values too.
 -- A place stands as itself and one; 0 says none.
 -- Assumes nothing.
-use Rattle.std.specs.Prelude.{◌≡◌, Bool, true, false, List, ℕ, ◌+◌, ◌-◌, ◌≤◌, ◌<◌, length, get_or}
+use Rattle.std.specs.Prelude.{◌≡◌, Option, None, Some, Bool, true, false, List, ℕ, ◌+◌, ◌-◌, ◌≤◌, ◌<◌, length, get_or}
 use Rattle.buckets.specs.InsideBuckets.{bucket_of}
+
+-- how a column holds a place that may be none
+abbrev pub link_of : Option ℕ → ℕ
+link_of None = 0
+link_of (Some p) = p + 1
 
 module _ (size : ℕ) (value : ℕ → ℕ) where
   abbrev pub bucket_at : ℕ → ℕ

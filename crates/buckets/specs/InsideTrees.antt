@@ -6,6 +6,10 @@ use Rattle.std.specs.Prelude.{◌≡◌, List, ℕ, zero, suc, ◌+◌, ◌-◌,
 use Rattle.buckets.specs.InsideBuckets.{first_place, Leads, bucket_of}
 use Rattle.buckets.specs.declared.Spot.{Spot}
 
+-- room for a tree of n places: at most 65,535 of them
+abbrev pub TreeRoom : ℕ → ℕ → ℕ → Type 0
+TreeRoom size n slots = (0 < size) × (size ≤ 65536) × (size + 2 * n ≤ slots) × (n ≤ 65535)
+
 -- what is left of a value after n bits
 unfoldable pub rest_at : ℕ → ℕ → ℕ
 rest_at x zero = x
@@ -30,7 +34,7 @@ pub record Found (size : ℕ) (values tree : List ℕ) (x p : ℕ) : Type 0 wher
 pub record Indexed (size : ℕ) (values : List ℕ) (m : ℕ) (tree : List ℕ) : Type 0 where
   pub stored : (s : ℕ) → 0 < get_or tree s 0 → (get_or tree s 0 ≤ m) × Leads values (get_or tree s 0 - 1)
   pub rising : (p b : ℕ) → 0 < get_or tree (size + 2 * p + b) 0 → b < 2 → p + 1 < get_or tree (size + 2 * p + b) 0
-  pub found : (p : ℕ) → p < m → Leads values p → Found size values tree (get_or values p 0) p
+  pub found : (p : ℕ) → p < m → Leads values p → ∥ Found size values tree (get_or values p 0) p ∥₁
 
 -- what a search for x says
 pub record Searched (size : ℕ) (values : List ℕ) (m : ℕ) (tree : List ℕ) (x : ℕ) (r : Spot) : Type 0 where

@@ -17,22 +17,21 @@ use native.Mathlib.Omega.{arith}
 use borrow.Author.Tests.{le-leb, leb-true, ltb-true, ltb-false, eqb-true}
 use lib.Dec.{leb, ltb, eqb}
 use lib.ListN.{length, take, drop, take-append-drop}
-use Rattle.digits.specs.declared.Number.{Number}
-use Rattle.digits.specs.declared.Number.TheVariants.{Value, Other}
+use Rattle.std.specs.Prelude.{Option, Some, None}
+use Rattle.std.proofs.lemmas.Option.{same_Some}
+use Rattle.calendar.specs.declared.Moment.{Moment}
+use Rattle.calendar.specs.Calendar.{moment}
 use Rattle.digits.specs.Digits.{all_digits, digits_of}
 use Rattle.digits.proofs.Laws.{all_append, digits_say}
-use Rattle.calendar.specs.declared.DateTime.TheVariants.{Second, NotADateTime}
-use Rattle.calendar.specs.declared.Day.{Day}
-use Rattle.calendar.specs.declared.Day.TheVariants.{At, NotADate}
 use Rattle.calendar.specs.Calendar.{days_in, month_days, first_day, month_of, is_date, day_at, number_day, day_of, is_time, second_of, on_day, date_time_of}
 use Rattle.calendar.specs.InsideDates.{Date, date, day_of_date, next_date, date_after}
 use Rattle.calendar.proofs.Days.{first_order, before_end, month_bounds}
 
-pub first_date : day_at 2000 1 1 ≡ At 0
+pub first_date : day_at 2000 1 1 ≡ Some 0
 unfolding day_at is_date first_day month_days
 first_date = refl
 
-pub last_date : day_at 2099 12 31 ≡ At 36524
+pub last_date : day_at 2099 12 31 ≡ Some 36524
 unfolding day_at is_date first_day month_days
 last_date = refl
 
@@ -45,7 +44,7 @@ pub record Dated (y m d : ℕ) : Type 0 where
   pub day_low : 1 ≤ d
   pub day_high : d ≤ month_days (month_of y m)
 
-pub date_is : (y m d : ℕ) → Dated y m d → day_at y m d ≡ At (first_day (month_of y m) + (d - 1))
+pub date_is : (y m d : ℕ) → Dated y m d → day_at y m d ≡ Some (first_day (month_of y m) + (d - 1))
 unfolding day_at is_date
 date_is y m d h =
     simp (
@@ -76,27 +75,27 @@ is_dated y m d e =
       day_high = leb-true _ _ t5.1;
     }
 
-pub date_is_not : (y m d : ℕ) → (Dated y m d → ⊥) → day_at y m d ≡ NotADate
+pub date_is_not : (y m d : ℕ) → (Dated y m d → ⊥) → day_at y m d ≡ None
 unfolding day_at
 date_is_not y m d h = go (is_date y m d) refl
   where
-    go : (t : Bool) → is_date y m d ≡ t → cond t (At (first_day (month_of y m) + (d - 1))) NotADate ≡ NotADate
+    go : (t : Bool) → is_date y m d ≡ t → cond t (Some (first_day (month_of y m) + (d - 1))) None ≡ None
     go true i = absurd (h (is_dated y m d i))
     go false i = refl
 
-no_date : {n : ℕ} → NotADate ≡ At n → ⊥
+no_date : {n : ℕ} → None ≡ Some n → ⊥
 no_date e = let z : ◌≡◌ {A = ℕ} 0 1 = cc in omega arith
 
-pub date_says : (y m d n : ℕ) → day_at y m d ≡ At n → Dated y m d × (first_day (month_of y m) + (d - 1) ≡ n)
+pub date_says : (y m d n : ℕ) → day_at y m d ≡ Some n → Dated y m d × (first_day (month_of y m) + (d - 1) ≡ n)
 unfolding day_at
 date_says y m d n e = go (is_date y m d) refl e
   where
-    go : (t : Bool) → is_date y m d ≡ t → cond t (At (first_day (month_of y m) + (d - 1))) NotADate ≡ At n
+    go : (t : Bool) → is_date y m d ≡ t → cond t (Some (first_day (month_of y m) + (d - 1))) None ≡ Some n
         → Dated y m d × (first_day (month_of y m) + (d - 1) ≡ n)
     go true i e = (is_dated y m d i, cc)
     go false i e = absurd (no_date e)
 
-pub date_bound : (y m d n : ℕ) → day_at y m d ≡ At n → n ≤ 36524
+pub date_bound : (y m d n : ℕ) → day_at y m d ≡ Some n → n ≤ 36524
 unfolding first_day month_days
 date_bound y m d n e =
     let t = date_says y m d n e in
@@ -115,17 +114,17 @@ month_length y m h l u =
 
 -- the first of the next month, after the last day of a month
 month_after : (y m d next-y next-m : ℕ) → Dated y m d → month_days (month_of y m) ≤ d → Dated next-y next-m 1 → month_of next-y next-m ≡ suc (month_of y m)
-    → day_at next-y next-m 1 ≡ At (first_day (month_of y m) + (d - 1) + 1)
+    → day_at next-y next-m 1 ≡ Some (first_day (month_of y m) + (d - 1) + 1)
 unfolding first_day
-month_after y m d next-y next-m g last next e = date_is next-y next-m 1 next ∙ ap At (omega (arith, ap first_day e))
+month_after y m d next-y next-m g last next e = date_is next-y next-m 1 next ∙ ap Some (omega (arith, ap first_day e))
 
 next_is : (y m d : ℕ) → Dated y m d → first_day (month_of y m) + (d - 1) < 36524 → (in-month in-year : Bool) → ltb d (days_in y (m - 1)) ≡ in-month → ltb m 12 ≡ in-year
-    → day_of_date (cond in-month (date y m (d + 1)) (cond in-year (date y (m + 1) 1) (date (y + 1) 1 1))) ≡ At (first_day (month_of y m) + (d - 1) + 1)
+    → day_of_date (cond in-month (date y m (d + 1)) (cond in-year (date y (m + 1) 1) (date (y + 1) 1 1))) ≡ Some (first_day (month_of y m) + (d - 1) + 1)
 unfolding first_day
 next_is y m d g h true in-year p q =
     let long = month_length y m g.year_low g.month_low g.month_high in
     let more : d < month_days (month_of y m) = omega (arith, ltb-true d (days_in y (m - 1)) p) in
-    date_is y m (d + 1) (omega arith) ∙ ap At (omega arith)
+    date_is y m (d + 1) (omega arith) ∙ ap Some (omega arith)
 next_is y m d g h false true p q =
     let long = month_length y m g.year_low g.month_low g.month_high in
     let last : month_days (month_of y m) ≤ d = omega (arith, ltb-false d (days_in y (m - 1)) p) in
@@ -137,18 +136,18 @@ next_is y m d g h false false p q =
     let more : suc (month_of y m) < 1200 = before_end (suc (month_of y m)) (omega arith) in
     month_after y m d (y + 1) 1 g last (omega (arith, (month_bounds (month_of (y + 1) 1)).0)) (omega arith)
 
-pub next_day : (a : Date) (n : ℕ) → day_of_date a ≡ At n → n < 36524 → day_of_date (next_date a) ≡ At (n + 1)
+pub next_day : (a : Date) (n : ℕ) → day_of_date a ≡ Some n → n < 36524 → day_of_date (next_date a) ≡ Some (n + 1)
 unfolding next_date
 next_day a n e h =
     let t = date_says a.year a.month a.day n e in
     next_is a.year a.month a.day t.0 (omega arith) (ltb a.day (days_in a.year (a.month - 1))) (ltb a.month 12) refl refl
-    ∙ ap (λ (k : ℕ). At (k + 1)) t.1
+    ∙ ap (λ (k : ℕ). Some (k + 1)) t.1
 
 -- ---- each number once
-pub date_number_lem : (n : ℕ) → n ≤ 36524 → day_of_date (date_after n) ≡ At n
+pub date_number_lem : (n : ℕ) → n ≤ 36524 → day_of_date (date_after n) ≡ Some n
 unfolding date_after
 date_number_lem zero h = first_date
-date_number_lem (suc n) h = next_day (date_after n) n (date_number_lem n (omega arith)) (omega arith) ∙ ap At (add-one n)
+date_number_lem (suc n) h = next_day (date_after n) n (date_number_lem n (omega arith)) (omega arith) ∙ ap Some (add-one n)
 
 -- days of two months have one number: no month is the earlier one
 not_before : (j k d c : ℕ) → d ≤ month_days j → first_day j + (d - 1) ≡ first_day k + (c - 1) → 1 ≤ d → j < k → ⊥
@@ -163,7 +162,7 @@ same_month j k d c dl dh cl ch e = go (ltb j k) (ltb k j) refl refl
     go false true p q = absurd (not_before k j c d ch (sym e) cl (ltb-true k j q))
     go false false p q = omega (arith, ltb-false j k p, ltb-false k j q)
 
-pub one_date : (a b : Date) (n : ℕ) → day_of_date a ≡ At n → day_of_date b ≡ At n → a ≡ b
+pub one_date : (a b : Date) (n : ℕ) → day_of_date a ≡ Some n → day_of_date b ≡ Some n → a ≡ b
 one_date a b n p q =
     let s = date_says a.year a.month a.day n p in
     let t = date_says b.year b.month b.day n q in
@@ -175,20 +174,20 @@ one_date a b n p q =
     let day : a.day ≡ b.day = omega (arith, ap first_day month) in
     λ i. record { year = year i; month = month_of_year i; day = day i }
 
-pub each_once : (a : Date) (n : ℕ) → (day_of_date a ≡ At n) ↔ ((a ≡ date_after n) × (n ≤ 36524))
+pub each_once : (a : Date) (n : ℕ) → (day_of_date a ≡ Some n) ↔ ((a ≡ date_after n) × (n ≤ 36524))
 each_once a n = (
   λ e. let h = date_bound a.year a.month a.day n e in (one_date a (date_after n) n e (date_number_lem n h), h),
   λ w. ap day_of_date w.0 ∙ date_number_lem n w.1,
 )
 
 -- ---- how large what is read can be
-pub day_bound : (s : List ℕ) (n : ℕ) → day_of s ≡ At n → n ≤ 36524
+pub day_bound : (s : List ℕ) (n : ℕ) → day_of s ≡ Some n → n ≤ 36524
 unfolding day_of
 day_bound s n e = go (eqb (length s) 8) (digits_of s) e
   where
-    go : (t : Bool) (v : Number) → cond t (number_day v) NotADate ≡ At n → n ≤ 36524
-    go true (Value v) e = date_bound (v / 10000) (v / 100 % 100) (v % 100) n e
-    go true Other e = absurd (no_date e)
+    go : (t : Bool) (v : Option ℕ) → cond t (number_day v) None ≡ Some n → n ≤ 36524
+    go true (Some v) e = date_bound (v / 10000) (v / 100 % 100) (v % 100) n e
+    go true None e = absurd (no_date e)
     go false v e = absurd (no_date e)
 
 time_bound : (n : ℕ) → is_time n ≡ true → second_of n < 86400
@@ -200,46 +199,47 @@ time_bound n e =
     let second = leb-true (n % 100) 59 t2.1 in
     omega arith
 
-no_date_time : {d t : ℕ} → NotADateTime ≡ Second d t → ⊥
+no_date_time : {d t : ℕ} → None ≡ Some (moment d t) → ⊥
 no_date_time e = let z : ◌≡◌ {A = ℕ} 0 1 = cc in omega arith
 
-pub date_time_bound : (s : List ℕ) (d t : ℕ) → date_time_of s ≡ Second d t → (d ≤ 36524) × (t < 86400)
+pub date_time_bound : (s : List ℕ) (d t : ℕ) → date_time_of s ≡ Some (moment d t) → (d ≤ 36524) × (t < 86400)
 unfolding date_time_of
 date_time_bound s d t e = go (eqb (length s) 14) (day_of (take 8 s)) (digits_of (drop 8 s)) refl e
   where
-    at : (k n : ℕ) (b : Bool) → is_time n ≡ b → cond b (Second k (second_of n)) NotADateTime ≡ Second d t → day_of (take 8 s) ≡ At k → (d ≤ 36524) × (t < 86400)
+    at : (k n : ℕ) (b : Bool) → is_time n ≡ b → cond b (Some (moment k (second_of n))) None ≡ Some (moment d t) → day_of (take 8 s) ≡ Some k → (d ≤ 36524) × (t < 86400)
     at k n true i e a =
-        let day : k ≡ d = cc in
-        let second : second_of n ≡ t = cc in
+        let same = same_Some (moment k (second_of n)) (moment d t) e in
+        let day : k ≡ d = ap (λ (m : Moment). m.day) same in
+        let second : second_of n ≡ t = ap (λ (m : Moment). m.second) same in
         (omega (arith, day_bound (take 8 s) k a), omega (arith, time_bound n i))
     at k n false i e a = absurd (no_date_time e)
 
-    go : (w : Bool) (a : Day) (v : Number) → day_of (take 8 s) ≡ a → cond w (on_day a v) NotADateTime ≡ Second d t → (d ≤ 36524) × (t < 86400)
-    go true (At k) (Value n) a e = at k n (is_time n) refl e a
-    go true (At k) Other a e = absurd (no_date_time e)
-    go true NotADate v a e = absurd (no_date_time e)
+    go : (w : Bool) (a : Option ℕ) (v : Option ℕ) → day_of (take 8 s) ≡ a → cond w (on_day a v) None ≡ Some (moment d t) → (d ≤ 36524) × (t < 86400)
+    go true (Some k) (Some n) a e = at k n (is_time n) refl e a
+    go true (Some k) None a e = absurd (no_date_time e)
+    go true None v a e = absurd (no_date_time e)
     go false a v p e = absurd (no_date_time e)
 
 -- ---- which bytes are read
-day_digits : (s : List ℕ) (n : ℕ) → day_of s ≡ At n → all_digits s ≡ true
+day_digits : (s : List ℕ) (n : ℕ) → day_of s ≡ Some n → all_digits s ≡ true
 unfolding day_of
 day_digits s n e = go (eqb (length s) 8) (digits_of s) refl e
   where
-    go : (w : Bool) (v : Number) → digits_of s ≡ v → cond w (number_day v) NotADate ≡ At n → all_digits s ≡ true
-    go true (Value v) q e = (digits_say s v q).digits
-    go true Other q e = absurd (no_date e)
+    go : (w : Bool) (v : Option ℕ) → digits_of s ≡ v → cond w (number_day v) None ≡ Some n → all_digits s ≡ true
+    go true (Some v) q e = (digits_say s v q).digits
+    go true None q e = absurd (no_date e)
     go false v q e = absurd (no_date e)
 
-pub date_time_digits : (s : List ℕ) (d t : ℕ) → date_time_of s ≡ Second d t → (length s ≡ 14) × (all_digits s ≡ true)
+pub date_time_digits : (s : List ℕ) (d t : ℕ) → date_time_of s ≡ Some (moment d t) → (length s ≡ 14) × (all_digits s ≡ true)
 unfolding date_time_of
 date_time_digits s d t e = go (eqb (length s) 14) (day_of (take 8 s)) (digits_of (drop 8 s)) refl refl refl e
   where
-    go : (w : Bool) (a : Day) (v : Number) → eqb (length s) 14 ≡ w → day_of (take 8 s) ≡ a → digits_of (drop 8 s) ≡ v → cond w (on_day a v) NotADateTime ≡ Second d t
+    go : (w : Bool) (a : Option ℕ) (v : Option ℕ) → eqb (length s) 14 ≡ w → day_of (take 8 s) ≡ a → digits_of (drop 8 s) ≡ v → cond w (on_day a v) None ≡ Some (moment d t)
         → (length s ≡ 14) × (all_digits s ≡ true)
-    go true (At k) (Value n) l a v e = (
+    go true (Some k) (Some n) l a v e = (
       eqb-true (length s) 14 l,
       ap all_digits (sym (take-append-drop 8 s)) ∙ all_append (take 8 s) (drop 8 s) ∙ simp (day_digits (take 8 s) k a, (digits_say (drop 8 s) n v).digits),
     )
-    go true (At k) Other l a v e = absurd (no_date_time e)
-    go true NotADate v l a q e = absurd (no_date_time e)
+    go true (Some k) None l a v e = absurd (no_date_time e)
+    go true None v l a q e = absurd (no_date_time e)
     go false a v l p q e = absurd (no_date_time e)

@@ -3,12 +3,8 @@
 -- Assumes nothing.
 use Rattle.std.specs.Prelude.{ℕ, zero, suc, ◌+◌, ◌-◌, ◌*◌, ◌/◌, ◌%◌, List, Bool, cond, ◌&&◌, ◌||◌, not, length, take, drop, eqb, leb}
 use Rattle.digits.specs.Digits.{digits_of}
-use Rattle.digits.specs.declared.Number.{Number}
-use Rattle.digits.specs.declared.Number.TheVariants.{Value, Other}
-use Rattle.calendar.specs.declared.Day.{Day}
-use Rattle.calendar.specs.declared.Day.TheVariants.{At, NotADate}
-use Rattle.calendar.specs.declared.DateTime.{DateTime}
-use Rattle.calendar.specs.declared.DateTime.TheVariants.{Second, NotADateTime}
+use Rattle.std.specs.Prelude.{Option, Some, None}
+use Rattle.calendar.specs.declared.Moment.{Moment}
 
 -- ---- leap years and lengths of months
 abbrev pub leap_year : ℕ → Bool
@@ -35,20 +31,20 @@ month_of y m = (y - 2000) * 12 + (m - 1)
 unfoldable pub is_date : ℕ → ℕ → ℕ → Bool
 is_date y m d = leb 2000 y && leb y 2099 && leb 1 m && leb m 12 && leb 1 d && leb d (month_days (month_of y m))
 
-unfoldable pub day_at : ℕ → ℕ → ℕ → Day
-day_at y m d = cond (is_date y m d) (At (first_day (month_of y m) + (d - 1))) NotADate
+unfoldable pub day_at : ℕ → ℕ → ℕ → Option ℕ
+day_at y m d = cond (is_date y m d) (Some (first_day (month_of y m) + (d - 1))) None
 
 -- the digits YYYYMMDD read as one number
-abbrev pub date_day : ℕ → Day
+abbrev pub date_day : ℕ → Option ℕ
 date_day n = day_at (n / 10000) (n / 100 % 100) (n % 100)
 
-abbrev pub number_day : Number → Day
-number_day (Value n) = date_day n
-number_day Other = NotADate
+abbrev pub number_day : Option ℕ → Option ℕ
+number_day (Some n) = date_day n
+number_day None = None
 
 -- "A date is eight digits"
-unfoldable pub day_of : List ℕ → Day
-day_of s = cond (eqb (length s) 8) (number_day (digits_of s)) NotADate
+unfoldable pub day_of : List ℕ → Option ℕ
+day_of s = cond (eqb (length s) 8) (number_day (digits_of s)) None
 
 -- ---- date times: "a date and six digits HHMMSS (000000 to 235959)"
 -- the second of the day, the digits HHMMSS read as one number
@@ -58,13 +54,16 @@ is_time n = leb (n / 10000) 23 && leb (n / 100 % 100) 59 && leb (n % 100) 59
 abbrev pub second_of : ℕ → ℕ
 second_of n = n / 10000 * 3600 + n / 100 % 100 * 60 + n % 100
 
-abbrev pub at_time : ℕ → Number → DateTime
-at_time day (Value n) = cond (is_time n) (Second day (second_of n)) NotADateTime
-at_time day Other = NotADateTime
+abbrev pub moment : ℕ → ℕ → Moment
+moment day second = record { day = day; second = second }
 
-abbrev pub on_day : Day → Number → DateTime
-on_day (At day) time = at_time day time
-on_day NotADate time = NotADateTime
+abbrev pub at_time : ℕ → Option ℕ → Option Moment
+at_time day (Some n) = cond (is_time n) (Some (moment day (second_of n))) None
+at_time day None = None
 
-unfoldable pub date_time_of : List ℕ → DateTime
-date_time_of s = cond (eqb (length s) 14) (on_day (day_of (take 8 s)) (digits_of (drop 8 s))) NotADateTime
+abbrev pub on_day : Option ℕ → Option ℕ → Option Moment
+on_day (Some day) time = at_time day time
+on_day None time = None
+
+unfoldable pub date_time_of : List ℕ → Option Moment
+date_time_of s = cond (eqb (length s) 14) (on_day (day_of (take 8 s)) (digits_of (drop 8 s))) None

@@ -2,7 +2,7 @@
 -- written (crate written_dates) is one of them.
 -- Assumes nothing.
 use Rattle.std.specs.Prelude.{ℕ, zero, suc, ◌+◌, ◌-◌, cond, ltb}
-use Rattle.calendar.specs.declared.Day.{Day}
+use Rattle.std.specs.Prelude.{Option}
 use Rattle.calendar.specs.Calendar.{days_in, day_at}
 
 -- a year, a month (1 is January) and a day of the month (1 is the first)
@@ -15,7 +15,7 @@ abbrev pub date : ℕ → ℕ → ℕ → Date
 date y m d = record { year = y; month = m; day = d }
 
 -- the day number of a date
-abbrev pub day_of_date : Date → Day
+abbrev pub day_of_date : Date → Option ℕ
 day_of_date a = day_at a.year a.month a.day
 
 -- the date after: the next day of the month, or else the first of the next month, or else 1 January of the next year

@@ -7,19 +7,11 @@ ghost use Rattle.calendar.specs.Calendar.{leap_year, month_days, first_day, date
 ghost use Rattle.calendar.specs.InsideFirstDays.{first_days};
 ghost use Rattle.calendar.specs.Periods.{shares_day};
 
-use digits::Number;
-
+// What a date time says: a day, and a second of it.
 #[derive(Clone, Copy)]
-pub enum Day {
-    At(u64),
-    NotADate,
-}
-
-// A day, and a second of it.
-#[derive(Clone, Copy)]
-pub enum DateTime {
-    Second(u64, u64),
-    NotADateTime,
+pub struct Moment {
+    pub day: u64,
+    pub second: u64,
 }
 
 // A period has both its start day and its end day.
@@ -121,31 +113,25 @@ const FIRST_DAYS: [u64; 1200] = [
     36464, 36494,
 ];
 
-// The table, for a reader of many dates: it is put onto the stack where it is named.
-pub fn first_days() -> [u64; 1200]
-    ensures { result ≡ first_days }
+// The table, where it stands: what asks it copies nothing.
+fn table() -> &'static [u64; 1200]
+    ensures { result.now ≡ first_days }
 {
-    FIRST_DAYS
+    &FIRST_DAYS
 }
 
 // The day number of the first of a month, counted from January 2000.
-fn first_day(table: &[u64], month: usize) -> u64
-    requires { (table.now ≡ first_days) × (month < 1200) }
+pub fn first_day(month: usize) -> u64
+    requires { month < 1200 }
     ensures { (result ≡ first_day month) × (result ≤ 36494) }
 {
-    table[month]
+    table()[month]
 }
 
 fn leap(year: usize) -> bool
     ensures { result ≡ leap_year year }
 {
-    if year % 400 == 0 {
-        return true;
-    }
-    if year % 100 == 0 {
-        return false;
-    }
-    year % 4 == 0
+    year % 400 == 0 || (year % 100 != 0 && year % 4 == 0)
 }
 
 // How many days a month has, counted from January 2000.
@@ -161,45 +147,20 @@ fn month_days(month: usize) -> u64
 }
 
 // The day of a date that is written as the number YYYYMMDD.
-pub fn date_day(table: &[u64], n: u64) -> Day
-    requires { table.now ≡ first_days }
+pub fn date_day(n: u64) -> Option<u64>
     ensures { result ≡ date_day n }
 {
     let year = n / 10000;
     let month = n / 100 % 100;
     let day = n % 100;
-    if year < 2000 {
-        return Day::NotADate;
-    }
-    if 2099 < year {
-        return Day::NotADate;
-    }
-    if month < 1 {
-        return Day::NotADate;
-    }
-    if 12 < month {
-        return Day::NotADate;
-    }
-    if day < 1 {
-        return Day::NotADate;
+    if year < 2000 || 2099 < year || month < 1 || 12 < month || day < 1 {
+        return None;
     }
     let k = ((year - 2000) * 12 + (month - 1)) as usize;
     if month_days(k) < day {
-        return Day::NotADate;
+        return None;
     }
-    Day::At(first_day(table, k) + (day - 1))
-}
-
-fn later(a: u64, b: u64) -> u64
-    ensures { result ≡ max a b }
-{
-    if a < b { b } else { a }
-}
-
-fn earlier(a: u64, b: u64) -> u64
-    ensures { result ≡ min a b }
-{
-    if a < b { a } else { b }
+    Some(first_day(k) + (day - 1))
 }
 
 impl Period {
@@ -207,72 +168,43 @@ impl Period {
     pub fn shares_day(self, other: Period) -> bool
         ensures { result ≡ shares_day self other }
     {
-        later(self.start, other.start) <= earlier(self.end, other.end)
-    }
-}
-
-// The day that eight digits YYYYMMDD name, by the table of first days.
-pub fn read_day(table: &[u64], s: &[u8]) -> Day
-    requires { table.now ≡ first_days }
-    ensures { result ≡ day_of s.now }
-{
-    if s.len() != 8 {
-        return Day::NotADate;
-    }
-    match digits::digits(s) {
-        Number::Value(n) => date_day(table, n),
-        Number::Other => Day::NotADate,
+        self.start.max(other.start) <= self.end.min(other.end)
     }
 }
 
 // The day that eight digits YYYYMMDD name.
-pub fn day_of(s: &[u8]) -> Day
+pub fn day_of(s: &[u8]) -> Option<u64>
     ensures { result ≡ day_of s.now }
 {
-    let table = first_days();
-    read_day(&table, s)
+    if s.len() != 8 {
+        return None;
+    }
+    let n = digits::digits(s)?;
+    date_day(n)
 }
 
 // The second of a day that the digits HHMMSS name, read as one number.
-fn at_time(day: u64, n: u64) -> DateTime
-    ensures { result ≡ at_time day (Number.Value n) }
+fn at_time(day: u64, n: u64) -> Option<Moment>
+    ensures { result ≡ at_time day (Some n) }
 {
     let hour = n / 10000;
     let minute = n / 100 % 100;
     let second = n % 100;
-    if 23 < hour {
-        return DateTime::NotADateTime;
+    if 23 < hour || 59 < minute || 59 < second {
+        return None;
     }
-    if 59 < minute {
-        return DateTime::NotADateTime;
-    }
-    if 59 < second {
-        return DateTime::NotADateTime;
-    }
-    DateTime::Second(day, hour * 3600 + minute * 60 + second)
-}
-
-// The day and second that fourteen digits YYYYMMDDHHMMSS name, by the table of first days.
-pub fn read_date_time(table: &[u64], s: &[u8]) -> DateTime
-    requires { table.now ≡ first_days }
-    ensures { result ≡ date_time_of s.now }
-{
-    if s.len() != 14 {
-        return DateTime::NotADateTime;
-    }
-    let Day::At(day) = read_day(table, &s[..8]) else {
-        return DateTime::NotADateTime;
-    };
-    let Number::Value(n) = digits::digits(&s[8..]) else {
-        return DateTime::NotADateTime;
-    };
-    at_time(day, n)
+    let second = hour * 3600 + minute * 60 + second;
+    Some(Moment { day, second })
 }
 
 // The day and second that fourteen digits YYYYMMDDHHMMSS name.
-pub fn date_time_of(s: &[u8]) -> DateTime
+pub fn date_time_of(s: &[u8]) -> Option<Moment>
     ensures { result ≡ date_time_of s.now }
 {
-    let table = first_days();
-    read_date_time(&table, s)
+    if s.len() != 14 {
+        return None;
+    }
+    let day = day_of(&s[..8])?;
+    let n = digits::digits(&s[8..])?;
+    at_time(day, n)
 }

@@ -24,7 +24,7 @@ use Rattle.fields.specs.declared.FieldType.TheVariants.{RecordId, Digits, Number
 use Rattle.fields.specs.Fields.{fits_type}
 use Rattle.tables.specs.Tables.{field_count, field_type}
 use Rattle.format.specs.Format.{commodity_fields, unit_fields, cancel_fields, exemption_fields}
-use Rattle.columns.specs.Columns.{field_table, field_of, number_in_column, day_in_column}
+use Rattle.columns.specs.Columns.{field_table, field_of, number_in_column}
 use Rattle.readings.specs.InsideLeadingBytes.{packed}
 use Rattle.amounts.specs.InsideSaid.{said_by}
 use Rattle.readings.specs.InsideReadings.{Says}
@@ -96,7 +96,7 @@ module _ (f : List ℕ) (n : ℕ) where
   says_id (Char w) h s = absurd h
   says_id (Varchar w) h s = absurd h
 
-  pub says_date : (t : FieldType) → T (is_date t) → Says t f n → n ≡ day_in_column (day_of f)
+  pub says_date : (t : FieldType) → T (is_date t) → Says t f n → n ≡ number_in_column (day_of f)
   unfolding Says
   says_date RecordId h s = absurd h
   says_date (Digits w) h s = absurd h

@@ -2,7 +2,7 @@
 --     field_small                  a column's field is below 24
 --     stored_after                 storing goes on in words in which some of it stands
 --     stored_type, type_stored     the type is stored
---     stored_number, stored_yes, stored_no    the numbers of the columns before the Cancel Indicator's, and that of this one, Y or another
+--     stored_number, stored_flag   the numbers of the columns before the Cancel Indicator's, and that of this one
 -- Assumes nothing.
 use mathlib.Core.Path.{◌≡◌, refl, sym, ◌∙◌, ap, subst}
 use mathlib.Core.List.{List, []}
@@ -10,8 +10,8 @@ use mathlib.Core.Bool.{Bool, true, false, cond, ◌&&◌}
 use Prim.Native.Nat.{ℕ, ◌+◌, ◌*◌, ◌≤◌, ◌<◌}
 use native.Mathlib.Nat.{zero-mul, zero-add}
 use native.Mathlib.Omega.{arith}
-use borrow.Author.Tests.{eq-eqb, ne_eqb, ltb-true}
-use lib.Dec.{T, ltb}
+use borrow.Author.Tests.{ne_eqb, ltb-true}
+use lib.Dec.{eqb, T, ltb}
 use lib.ListN.{length, get_or, set}
 use Rattle.lists.proofs.AllBelow.{at_below}
 use Rattle.lists.proofs.Table.{every, tabulate_at}
@@ -67,10 +67,6 @@ module _ (type : ℕ) (numbers : List ℕ) where
 
   -- the Cancel Indicator's number is n
   module _ (n : ℕ) (e : n ≡ field_number type numbers 7) where
-    pub stored_yes : n ≡ 89 → 1 ≡ get_or (column_numbers type numbers) 7 0
+    pub stored_flag : cond (eqb n 89) 1 0 ≡ get_or (column_numbers type numbers) 7 0
     unfolding column_number packed_after
-    stored_yes q = sym (stored_at 7 (omega arith) ∙ rw (eq-eqb (field_number type numbers 7) 89 (sym e ∙ q)))
-
-    pub stored_no : (n ≡ 89 → ⊥) → 0 ≡ get_or (column_numbers type numbers) 7 0
-    unfolding column_number packed_after
-    stored_no q = sym (stored_at 7 (omega arith) ∙ rw (ne_eqb (field_number type numbers 7) 89 (λ p. q (e ∙ p))))
+    stored_flag = sym (stored_at 7 (omega arith) ∙ ap (λ (k : ℕ). cond (eqb k 89) 1 0) (sym e))

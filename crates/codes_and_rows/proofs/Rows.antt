@@ -17,7 +17,7 @@ use Rattle.calendar.specs.Calendar.{day_of}
 use Rattle.amounts.specs.Amounts.{amount_of}
 use Rattle.records.specs.Records.{field, type_in}
 use Rattle.tables.specs.Tables.{field_count, field_type}
-use Rattle.columns.specs.Columns.{field_of, number_in_column, day_in_column, cancel_in_column, in_column, number_in, charge_in, usage_in, charge, usage}
+use Rattle.columns.specs.Columns.{field_of, number_in_column, cancel_in_column, in_column, number_in, charge_in, usage_in, charge, usage}
 use Rattle.readings.specs.InsideLeadingBytes.{packed, packed_after}
 use Rattle.amounts.specs.InsideSaid.{said_by}
 use Rattle.amounts.proofs.Sayings.{said_missing}
@@ -33,7 +33,7 @@ module _ {type : ℕ} {line numbers : List ℕ} (read : NumbersRead type line nu
   id_column zero t = read.none
   id_column (suc j) t = let here = kind_at is_id type j t in says_id (field (suc j) line) _ (field_type type j) here.1 (stands_at read known j here.0).says
 
-  date_column : (k : ℕ) → T (has_kind is_date type k) → get_or numbers k 0 ≡ day_in_column (day_of (field k line))
+  date_column : (k : ℕ) → T (has_kind is_date type k) → get_or numbers k 0 ≡ number_in_column (day_of (field k line))
   unfolding field day_of
   date_column zero t = read.none
   date_column (suc j) t = let here = kind_at is_date type j t in says_date (field (suc j) line) _ (field_type type j) here.1 (stands_at read known j here.0).says
@@ -67,7 +67,7 @@ module _ {type : ℕ} {line numbers : List ℕ} (read : NumbersRead type line nu
       id_same : (column : ℕ) → T (has_kind is_id type (field_of column type)) → field_number type numbers column ≡ number_in_column (digits_of (field (field_of column (type_in line)) line))
       id_same column t = rw named (id_column (field_of column type) t)
 
-      date_same : (column : ℕ) → T (has_kind is_date type (field_of column type)) → field_number type numbers column ≡ day_in_column (day_of (field (field_of column (type_in line)) line))
+      date_same : (column : ℕ) → T (has_kind is_date type (field_of column type)) → field_number type numbers column ≡ number_in_column (day_of (field (field_of column (type_in line)) line))
       date_same column t = rw named (date_column (field_of column type) t)
 
       columns_same : AllBelow SameColumn 8

@@ -6,7 +6,7 @@ ghost use Rattle.std.specs.Prelude.{◌≡◌, ◌||◌, eqb, ◌+◌, ◌≤◌
 ghost use Rattle.format.specs.Format.{commodity_fields, unit_fields, cancel_fields, exemption_fields};
 ghost use Rattle.columns.specs.InsideColumns.{Room};
 ghost use Rattle.columns.specs.Columns.{charge, usage};
-ghost use Rattle.columns.specs.InsideRows.{column_fields, RowStored};
+ghost use Rattle.columns.specs.InsideRows.{RowStored};
 ghost use Rattle.codes_and_rows.specs.InsideNumbers.{codes_stand, unit_of_number, column_numbers, field_number};
 
 // The fields that have the codes of test 7, counted from 1: Commodity Code, Usage UOM, Cancel Indicator and GST Exemption Indicator.
@@ -109,9 +109,8 @@ pub fn codes_stand(record_type: u64, numbers: &[u64; 24], commodity: u64) -> boo
     is_either(exemption_field(record_type), numbers, YES, NO)
 }
 
-// Puts what the columns hold of line i, a record of a type, into them: the numbers of its fields, by the table of the columns' fields, which is lent.
+// Puts what the columns hold of line i, a record of a type, into them: the numbers of its fields.
 pub fn store_line(
-    fields: &[[usize; 10]; 9],
     numbers: &[u64],
     record_type: u64,
     words: &mut [u64],
@@ -119,23 +118,22 @@ pub fn store_line(
     usages: &mut [u64],
     i: usize,
 )
-    requires fields_value { (fields.now ≡ column_fields) × (length numbers.now ≡ 24) × (record_type < 9) }
+    requires numbers_len { (length numbers.now ≡ 24) × (record_type < 9) }
     requires room { Room (i + 1) words.old charges.old usages.old × (length charges.old ≤ 4096) }
     ensures row_stored { RowStored (length charges.old) words.old i (column_numbers record_type numbers.now) 8 words.new }
     ensures charges_after { charges.new ≡ set charges.old i (field_number record_type numbers.now charge) }
     ensures usages_after { usages.new ≡ set usages.old i (field_number record_type numbers.now usage) }
 {
     let room = charges.len();
+    let fields = columns::column_fields();
     let row = record_type as usize;
     words[i] = record_type;
-    let mut c: usize = 1;
-    while c < 7 {
+    for c in 1..7 {
         let k = fields[row][c];
         words[c * room + i] = numbers[k];
-        c += 1;
     }
     let cancel = fields[row][7];
-    words[7 * room + i] = if numbers[cancel] == YES { 1 } else { 0 };
+    words[7 * room + i] = u64::from(numbers[cancel] == YES);
     let charge = fields[row][8];
     charges[i] = numbers[charge];
     let usage = fields[row][9];

@@ -7,14 +7,13 @@
 -- Assumes nothing.
 use mathlib.Core.Path.{◌≡◌, refl, sym, ◌∙◌, ap}
 use mathlib.Core.List.{List, [], ◌∷◌, map}
-use Prim.Native.Nat.{ℕ, zero, suc, ◌+◌, ◌^◌, ◌≤◌, ◌<◌}
+use Prim.Native.Nat.{ℕ, zero, suc, ◌+◌, ◌^◌, ◌<◌}
 use native.Mathlib.Nat.{le_of_suc-le-suc}
 use native.Mathlib.Omega.{arith}
 use lib.Dec.{lit≤}
 use lib.IntN.{nat_abs}
 use lib.ListN.{length, get_or, take, length-map}
-use Rattle.digits.specs.declared.Number.{Number}
-use Rattle.digits.specs.declared.Number.TheVariants.{Value, Other}
+use Rattle.std.specs.Prelude.{Option, Some, None}
 use Rattle.digits.specs.Digits.{digits_of}
 use Rattle.digits.proofs.Laws.{ten_room, digits_say, digits_bound}
 use Rattle.amounts.specs.declared.Amount.{Amount}
@@ -29,15 +28,15 @@ use Rattle.columns.specs.InsideColumns.{column_at, ColumnsRead}
 less_one : {A : Type 0} (value : ℕ → A) (m n : ℕ) → m + 1 ≡ suc n → value m ≡ value n
 less_one value m n e = ap value (omega (arith, e))
 
-pub number_kept : (x : Number) (n : ℕ) → number_in_column x ≡ suc n → x ≡ Value n
-number_kept (Value m) n e = less_one Value m n e
-number_kept Other n e = absurd (omega (arith, e))
+pub number_kept : (x : Option ℕ) (n : ℕ) → number_in_column x ≡ suc n → x ≡ Some n
+number_kept (Some m) n e = less_one Some m n e
+number_kept None n e = absurd (omega (arith, e))
 
-pub number_none : (x : Number) → number_in_column x ≡ 0 → x ≡ Other
-number_none (Value m) e = absurd (omega (arith, e))
-number_none Other e = refl
+pub number_none : (x : Option ℕ) → number_in_column x ≡ 0 → x ≡ None
+number_none (Some m) e = absurd (omega (arith, e))
+number_none None e = refl
 
-pub number_small : (s : List ℕ) (n : ℕ) → digits_of s ≡ Value n → n < 10 ^ 15
+pub number_small : (s : List ℕ) (n : ℕ) → digits_of s ≡ Some n → n < 10 ^ 15
 number_small s n e = ten_room (length s) (digits_bound s n e) (digits_say s n e).few
 
 -- ---- amounts

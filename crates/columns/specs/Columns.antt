@@ -3,11 +3,8 @@
 use Rattle.std.specs.Prelude.{ℕ, ◌+◌, List, [], ◌∷◌, cond, ◌&&◌, get_or, eqb, ltb}
 use Rattle.lists.specs.Bytes.{same_bytes}
 use Rattle.lists.specs.Written.{written}
-use Rattle.digits.specs.declared.Number.{Number}
-use Rattle.digits.specs.declared.Number.TheVariants.{Value, Other}
+use Rattle.std.specs.Prelude.{Option, Some, None}
 use Rattle.digits.specs.Digits.{digits_of}
-use Rattle.calendar.specs.declared.Day.{Day}
-use Rattle.calendar.specs.declared.Day.TheVariants.{At, NotADate}
 use Rattle.calendar.specs.Calendar.{day_of}
 use Rattle.amounts.specs.declared.Amount.{Amount}
 use Rattle.amounts.specs.Amounts.{amount_of}
@@ -70,13 +67,9 @@ abbrev pub field_in : ℕ → List ℕ → List ℕ
 field_in column line = field (field_of column (type_in line)) line
 
 -- ---- numbers: a number stands as itself and one, so that 0 says that the field has none
-abbrev pub number_in_column : Number → ℕ
-number_in_column (Value n) = n + 1
-number_in_column Other = 0
-
-abbrev pub day_in_column : Day → ℕ
-day_in_column (At d) = d + 1
-day_in_column NotADate = 0
+abbrev pub number_in_column : Option ℕ → ℕ
+number_in_column (Some n) = n + 1
+number_in_column None = 0
 
 -- 1 for Y
 abbrev pub cancel_in_column : List ℕ → ℕ
@@ -84,7 +77,7 @@ cancel_in_column s = cond (same_bytes s (written "Y")) 1 0
 
 -- IDs in columns 1 to 4, days in 5 and 6, the Cancel Indicator in 7
 unfoldable pub in_column : ℕ → List ℕ → ℕ
-in_column column s = cond (ltb column 5) (number_in_column (digits_of s)) (cond (ltb column 7) (day_in_column (day_of s)) (cancel_in_column s))
+in_column column s = cond (ltb column 5) (number_in_column (digits_of s)) (cond (ltb column 7) (number_in_column (day_of s)) (cancel_in_column s))
 
 unfoldable pub number_in : ℕ → List ℕ → ℕ
 number_in column line = cond (eqb column 0) (type_in line) (in_column column (field_in column line))

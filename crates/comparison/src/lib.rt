@@ -1,5 +1,5 @@
 // What the comparison tests and benchmarks call besides the host's functions: the readings of single fields, and the writing of dates and of a dispute's line. A reading answers 0, or 3 where the
-// bytes miss their type; then what stands behind its references is left as it was.
+// bytes miss their type (the C interface has no Option); then what stands behind its references is left as it was.
 
 #![tactic(auto)]
 
@@ -9,17 +9,10 @@ ghost use Rattle.comparison.specs.InsideDates.{date_number, date_after};
 ghost use Rattle.comparison.specs.InsideDisputes.{dispute_said, dispute_length, dispute_after};
 ghost use Rattle.comparison.specs.InsideReadings.{flag, digits_for, digits_number, value_after, date_time_number, day_after, second_after, shares_day_of};
 
-use calendar::{DateTime, Period};
-use digits::Number;
+use calendar::Period;
 use dispute_lines::Dispute;
 
-fn one_if(b: bool) -> u64
-    ensures { result ≡ flag b }
-{
-    if b { 1 } else { 0 }
-}
-
-fn digits_for(s: &[u8], n: usize) -> Number
+fn digits_for(s: &[u8], n: usize) -> Option<u64>
     ensures { result ≡ digits_for n s.now }
 {
     if n == 0 {
@@ -35,11 +28,11 @@ pub extern "C" fn comparison_digits(s: &[u8], n: u64, value: &mut u64) -> u64
     ensures stored { value.new ≡ value_after value.old (digits_for n s.now) }
 {
     match digits_for(s, n as usize) {
-        Number::Value(v) => {
+        Some(v) => {
             *value = v;
             0
         }
-        Number::Other => 3,
+        None => 3,
     }
 }
 
@@ -51,12 +44,12 @@ pub extern "C" fn comparison_date_time(s: &[u8], day: &mut u64, second: &mut u64
     ensures second { second.new ≡ second_after second.old (date_time_of s.now) }
 {
     match calendar::date_time_of(s) {
-        DateTime::Second(d, t) => {
-            *day = d;
-            *second = t;
+        Some(moment) => {
+            *day = moment.day;
+            *second = moment.second;
             0
         }
-        DateTime::NotADateTime => 3,
+        None => 3,
     }
 }
 
@@ -73,7 +66,7 @@ pub extern "C" fn comparison_shares_day(start1: u64, end1: u64, start2: u64, end
         start: start2,
         end: end2,
     };
-    one_if(one.shares_day(other))
+    u64::from(one.shares_day(other))
 }
 
 // The date of a day, written at the start of some bytes; 106 past the last day and 109 where there is no room, which leave them.
@@ -88,8 +81,7 @@ pub extern "C" fn comparison_date(day: u64, out: &mut [u8]) -> u64
     if out.len() < 8 {
         return 109;
     }
-    let table = calendar::first_days();
-    written_dates::write_date(&table, out, 0, day);
+    written_dates::write_date(out, 0, day);
     0
 }
 

@@ -55,10 +55,10 @@ const SERVICE_RATCHET: u64 = 1000000000004200;
 fn is_ratchet(number: u64) -> bool
     ensures { result ≡ is_one_of ratchets (said_by number) }
 {
-    match number {
-        RATCHET | TRANSMISSION_RATCHET | DISTRIBUTION_RATCHET | SERVICE_RATCHET => true,
-        _ => false,
-    }
+    matches!(
+        number,
+        RATCHET | TRANSMISSION_RATCHET | DISTRIBUTION_RATCHET | SERVICE_RATCHET
+    )
 }
 
 // Whether one of count fields is empty, of which the first stands after `after` others.
@@ -71,12 +71,10 @@ fn some_empty<'a>(
     requires { after + count ≤ 24 }
     ensures { result ≡ some_below (λ j. eqb (get_or starts.now (after + j) 0) (get_or ends.now (after + j) 0)) count }
 {
-    let mut j: usize = 0;
-    while j < count {
+    for j in 0..count {
         if starts[after + j] == ends[after + j] {
             return true;
         }
-        j += 1;
     }
     false
 }
@@ -103,7 +101,7 @@ pub fn is_unpopulated<'a>(
             if numbers[DU_METER_TYPE] != CUMULATIVE {
                 return false;
             }
-            let count: usize = if energized {
+            let count = if energized {
                 TO_BILLING_MULTIPLIER
             } else {
                 METER_NUMBER_ALONE

@@ -5,6 +5,7 @@
 --     line_short                          no line is longer than 72 bytes
 -- Assumes nothing.
 use mathlib.Core.Path.{◌≡◌, sym, ◌∙◌, ap}
+use Rattle.std.specs.Prelude.{Ok, Err}
 use mathlib.Core.Bool.{Bool, true, false, cond}
 use mathlib.Core.List.{List, [], ◌∷◌, ◌++◌, append_assoc}
 use Prim.Native.Nat.{ℕ, ◌+◌, ◌≤◌}
@@ -12,8 +13,9 @@ use native.Mathlib.Omega.{arith}
 use borrow.Author.Tests.{eq-eqb, ne_eqb}
 use lib.Dec.{eqb}
 use lib.ListN.{length, length-append}
-use Rattle.booking.specs.declared.Answer.{Answer}
-use Rattle.booking.specs.declared.Answer.TheVariants.{Refused, Accepted}
+use Rattle.booking.specs.Answers.{Answer}
+use Rattle.refusals.specs.declared.Outcome.{Outcome}
+use Rattle.booking.specs.declared.Counts.{Counts}
 use Rattle.booking.specs.Booking.{Result, result_of}
 use Rattle.writing.specs.Decimals.{plain_digits}
 use Rattle.writing.specs.InsideWriting.{written_at}
@@ -38,17 +40,17 @@ unfolding rejected_line parted
 rejected_length number code line = simp length-append (omega arith)
 
 module _ {answer : Answer} where
-  pub accepted_is : (added held : ℕ) → answer ≡ Accepted added held → accepted_line added held ≡ line_of (result_of answer)
+  pub accepted_is : (counts : Counts) → answer ≡ Ok counts → accepted_line counts.added counts.held ≡ line_of (result_of answer)
   unfolding line_of
-  accepted_is added held e = rw e
+  accepted_is counts e = rw e
 
-  pub rejected_is : (number line : ℕ) → answer ≡ Refused number line → (number ≡ 0 → ⊥) → rejected_line number (code_number number) line ≡ line_of (result_of answer)
+  pub rejected_is : (r : Outcome) → answer ≡ Err r → (r.number ≡ 0 → ⊥) → rejected_line r.number (code_number r.number) r.line ≡ line_of (result_of answer)
   unfolding line_of
-  rejected_is number line e h = rw (e, ne_eqb number 0 h)
+  rejected_is r e h = rw (e, ne_eqb r.number 0 h)
 
-  pub zero_is : (number line : ℕ) → answer ≡ Refused number line → number ≡ 0 → accepted_line 0 0 ≡ line_of (result_of answer)
+  pub zero_is : (r : Outcome) → answer ≡ Err r → r.number ≡ 0 → accepted_line 0 0 ≡ line_of (result_of answer)
   unfolding line_of
-  zero_is number line e h = rw (e, eq-eqb number 0 h)
+  zero_is r e h = rw (e, eq-eqb r.number 0 h)
 
 -- a line fits the room that the functions ask for
 pub line_short : (r : Result) → length (line_of r) ≤ 72

@@ -2,16 +2,15 @@
 -- Assumes nothing.
 use Rattle.std.specs.Prelude.{ℕ, cond, List, [], ◌∷◌, ◌++◌, eqb}
 use Rattle.lists.specs.Written.{written}
-use Rattle.refusals.specs.declared.RejectionCode.{RejectionCode}
-use Rattle.refusals.specs.declared.RejectionCode.TheVariants.{Code, NotATest}
+use Rattle.std.specs.Prelude.{Option, Some, None}
 use Rattle.refusals.specs.Codes.{code_of}
 use Rattle.booking.specs.Booking.{Result}
 use Rattle.writing.specs.Decimals.{plain_digits}
 
 -- "code (0 for house numbers)": 0 for every number that has no code
-abbrev pub code_or_zero : RejectionCode → ℕ
-code_or_zero (Code code) = code
-code_or_zero NotATest = 0
+abbrev pub code_or_zero : Option ℕ → ℕ
+code_or_zero (Some code) = code
+code_or_zero None = 0
 
 unfoldable pub code_number : ℕ → ℕ
 code_number number = code_or_zero (code_of number)

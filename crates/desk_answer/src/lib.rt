@@ -9,17 +9,15 @@ ghost use Rattle.writing.specs.InsideWriting.{written_at};
 ghost use Rattle.desk_answer.specs.Line.{code_number, accepted_line, rejected_line, line_of};
 ghost use Rattle.desk_answer.specs.Desk.{desk_result};
 
-use booking::Answer;
-use refusals::RejectionCode;
+use booking::Counts;
+use refusals::{Outcome, refused};
 
 // The code of a number; 0 where it has none.
+#[tactic(auto, unfolding(crate::specs::Line::code_number))]
 fn code_number(number: u64) -> u64
     ensures { result ≡ code_number number }
 {
-    match refusals::code_of(number) {
-        RejectionCode::Code(code) => code,
-        RejectionCode::NotATest => 0,
-    }
+    refusals::code_of(number).unwrap_or(0)
 }
 
 // n and the byte after it; returns the place after both.
@@ -55,32 +53,37 @@ fn write_rejected(out: &mut [u8], number: u64, code: u64, line: u64) -> usize
 
 // The line of Book's answer, at the start of `out`; returns its length. 72 bytes hold every line: a word of 8, three spaces, three numbers of at most
 // 20 digits, and byte 10.
-pub fn write_line(answer: Answer, out: &mut [u8]) -> usize
+pub fn write_line(answer: Result<Counts, Outcome>, out: &mut [u8]) -> usize
     requires { 72 ≤ length out.old }
     ensures { (out.new ≡ written_at out.old 0 (line_of (result_of answer))) × (result ≡ length (line_of (result_of answer))) }
 {
     match answer {
-        Answer::Refused(number, line) => {
+        Ok(counts) => write_accepted(out, counts.added as u64, counts.held as u64),
+        Err(refusal) => {
             // number 0 is that of an accepted file: by `result_of` nothing was added and nothing is held
-            if number == 0 {
+            if refusal.number == 0 {
                 return write_accepted(out, 0, 0);
             }
-            write_rejected(out, number as u64, code_number(number as u64), line as u64)
+            write_rejected(
+                out,
+                refusal.number,
+                code_number(refusal.number),
+                refusal.line,
+            )
         }
-        Answer::Accepted(added, held) => write_accepted(out, added as u64, held as u64),
     }
 }
 
 // Book's answer to the input, over an empty ledger of 512 entries.
-fn answer(input: &[u8]) -> Answer
+fn answer(input: &[u8]) -> Result<Counts, Outcome>
     ensures { result_of result ≡ desk_result input.now }
 {
-    if 65536 < input.len() {
-        return Answer::Refused(103, 0);
+    let is_long = 65536 < input.len();
+    if is_long {
+        return Err(refused(103, 0));
     }
-    let mut words = [0u64; 4608];
-    let mut amounts = [0i64; 1024];
-    book::book(999999999, b"0040", input, &mut words, &mut amounts, 512, 0)
+    let mut run = [entries::blank(); 512];
+    book::book(999999999, b"0040", input, &mut run, 0)
 }
 
 // Writes the line into `out`, and answers its length.

@@ -1,12 +1,12 @@
 -- Laws of digits.
---     digits_step, -low, -high, -end    one turn of a loop over the bytes, and its end
+--     digits_next, digits_end           one turn of a loop over the bytes, and its end
 --     digits_bound                      n digits say less than the n-th power of ten
 --     digits_say, digits_none           what an answer tells of the bytes
 --     fixed_say, fixed_same             what is said by just so many digits, and that no other bytes say it
 --     leading_zero                      a leading zero changes no value
 --     all_append                        digits followed by digits
 -- Assumes nothing.
-use mathlib.Core.Path.{◌≡◌, refl, sym, ◌∙◌, subst}
+use mathlib.Core.Path.{◌≡◌, refl, sym, ◌∙◌, ap, subst}
 use mathlib.Core.List.{List, [], ◌∷◌, ◌++◌}
 use mathlib.Core.Bool.{Bool, true, false, cond, ◌&&◌, and-false, and_assoc}
 use Prim.Native.Nat.{ℕ, suc, ◌+◌, ◌-◌, ◌*◌, ◌^◌, ◌≤◌, ◌<◌}
@@ -17,7 +17,7 @@ use borrow.Author.Tests.{le-leb, lt-leb, leb-true, eqb-true}
 use lib.Dec.{lit<, leb, eqb}
 use lib.ListN.{length, get_or, drop, drop_of_length-le}
 use lib.Seq.{drop-cons}
-use Rattle.digits.specs.declared.Number.TheVariants.{Value, Other}
+use Rattle.std.specs.Prelude.{Some, None}
 use Rattle.digits.specs.Digits.{is_digit, all_digits, followed_by, number_of, digits_of, fixed_digits_of}
 
 -- one digit more
@@ -30,17 +30,9 @@ ten_room i h k = lt_of_lt_of_le h (pow-le-pow_right (lit< tt) k)
 
 -- ---- a loop over the bytes that stands at place i
 module _ (s : List ℕ) (i : ℕ) (h : i < length s) where
-  pub digits_step : 48 ≤ get_or s i 0 → get_or s i 0 ≤ 57 → all_digits (drop i s) ≡ all_digits (drop (i + 1) s)
+  pub digits_next : (t : Bool) → is_digit (get_or s i 0) ≡ t → all_digits (drop i s) ≡ t && all_digits (drop (i + 1) s)
   unfolding all_digits
-  digits_step l u = rw (add-one, drop-cons s i 0) (simp (le-leb _ _ l, le-leb _ _ u))
-
-  pub digits_low : get_or s i 0 < 48 → all_digits (drop i s) ≡ false
-  unfolding all_digits
-  digits_low l = rw (drop-cons s i 0) (simp (lt-leb _ _ l))
-
-  pub digits_high : 57 < get_or s i 0 → all_digits (drop i s) ≡ false
-  unfolding all_digits
-  digits_high u = rw (drop-cons s i 0) (simp (lt-leb _ _ u, and-false))
+  digits_next t e = rw (add-one, drop-cons s i 0) (ap (λ (b : Bool). b && all_digits (drop (suc i) s)) e)
 
   pub followed_step : (v : ℕ) → followed_by v (drop i s) ≡ followed_by (v * 10 + (get_or s i 0 - 48)) (drop (i + 1) s)
   unfolding followed_by
@@ -62,7 +54,7 @@ both_true true false e = (refl, e)
 both_true false true e = (e, refl)
 both_true false false e = (e, e)
 
-digit_range : (b : ℕ) → is_digit b ≡ true → (48 ≤ b) × (b ≤ 57)
+pub digit_range : (b : ℕ) → is_digit b ≡ true → (48 ≤ b) × (b ≤ 57)
 digit_range b e = let r = both_true (leb 48 b) (leb b 57) e in (leb-true 48 b r.0, leb-true b 57 r.1)
 
 followed_bound : (s : List ℕ) (v k : ℕ) → all_digits s ≡ true → v < 10 ^ k → followed_by v s < 10 ^ (k + length s)
@@ -83,7 +75,7 @@ pub record Digits (s : List ℕ) (n : ℕ) : Type 0 where
   pub value : number_of s ≡ n
 
 digits_told : (s : List ℕ) (n : ℕ) (l u d : Bool) → leb 1 (length s) ≡ l → leb (length s) 15 ≡ u → all_digits s ≡ d
-    → cond ((l && u) && d) (Value (number_of s)) Other ≡ Value n → Digits s n
+    → cond ((l && u) && d) (Some (number_of s)) None ≡ Some n → Digits s n
 digits_told s n true true true l u d e = record { some = leb-true _ _ l; few = leb-true _ _ u; digits = d; value = cc }
 digits_told s n true true false l u d e = let z : ◌≡◌ {A = ℕ} 0 1 = cc in absurd (omega arith)
 digits_told s n true false true l u d e = let z : ◌≡◌ {A = ℕ} 0 1 = cc in absurd (omega arith)
@@ -93,33 +85,33 @@ digits_told s n false true false l u d e = let z : ◌≡◌ {A = ℕ} 0 1 = cc 
 digits_told s n false false true l u d e = let z : ◌≡◌ {A = ℕ} 0 1 = cc in absurd (omega arith)
 digits_told s n false false false l u d e = let z : ◌≡◌ {A = ℕ} 0 1 = cc in absurd (omega arith)
 
-pub digits_say : (s : List ℕ) (n : ℕ) → digits_of s ≡ Value n → Digits s n
+pub digits_say : (s : List ℕ) (n : ℕ) → digits_of s ≡ Some n → Digits s n
 unfolding digits_of
 digits_say s n e = digits_told s n (leb 1 (length s)) (leb (length s) 15) (all_digits s) refl refl refl e
 
 -- the answer for bytes that are digits
-pub digits_are : (s : List ℕ) → 1 ≤ length s → length s ≤ 15 → all_digits s ≡ true → digits_of s ≡ Value (number_of s)
+pub digits_are : (s : List ℕ) → 1 ≤ length s → length s ≤ 15 → all_digits s ≡ true → digits_of s ≡ Some (number_of s)
 unfolding digits_of
 digits_are s l u d = simp (le-leb _ _ l, le-leb _ _ u, d)
 
 -- bytes that are not
-pub digits_not : (s : List ℕ) → all_digits s ≡ false → digits_of s ≡ Other
+pub digits_not : (s : List ℕ) → all_digits s ≡ false → digits_of s ≡ None
 unfolding digits_of
 digits_not s d = simp (d, and-false)
 
-pub digits_too_few : (s : List ℕ) → length s < 1 → digits_of s ≡ Other
+pub digits_too_few : (s : List ℕ) → length s < 1 → digits_of s ≡ None
 unfolding digits_of
 digits_too_few s h = simp (lt-leb _ _ h)
 
-pub digits_too_many : (s : List ℕ) → 15 < length s → digits_of s ≡ Other
+pub digits_too_many : (s : List ℕ) → 15 < length s → digits_of s ≡ None
 unfolding digits_of
 digits_too_many s h = simp (lt-leb _ _ h, and-false)
 
-pub digits_bound : (s : List ℕ) (n : ℕ) → digits_of s ≡ Value n → n < 10 ^ length s
+pub digits_bound : (s : List ℕ) (n : ℕ) → digits_of s ≡ Some n → n < 10 ^ length s
 digits_bound s n e = let d = digits_say s n e in subst (λ (m : ℕ). m < 10 ^ length s) d.value (number_bound s d.digits)
 
 -- bytes that are no number though few enough
-pub digits_none : (s : List ℕ) → digits_of s ≡ Other → 1 ≤ length s → length s ≤ 15 → all_digits s ≡ false
+pub digits_none : (s : List ℕ) → digits_of s ≡ None → 1 ≤ length s → length s ≤ 15 → all_digits s ≡ false
 digits_none s e l u = go (all_digits s) refl
   where
     go : (d : Bool) → all_digits s ≡ d → all_digits s ≡ false
@@ -127,11 +119,11 @@ digits_none s e l u = go (all_digits s) refl
     go false d = d
 
 -- ---- so many digits, and no others, say a number
-pub fixed_say : (width : ℕ) (s : List ℕ) (n : ℕ) → fixed_digits_of width s ≡ Value n → (length s ≡ width) × (digits_of s ≡ Value n)
+pub fixed_say : (width : ℕ) (s : List ℕ) (n : ℕ) → fixed_digits_of width s ≡ Some n → (length s ≡ width) × (digits_of s ≡ Some n)
 unfolding fixed_digits_of
 fixed_say width s n e = go (eqb (length s) width) refl e
   where
-    go : (b : Bool) → eqb (length s) width ≡ b → cond b (digits_of s) Other ≡ Value n → (length s ≡ width) × (digits_of s ≡ Value n)
+    go : (b : Bool) → eqb (length s) width ≡ b → cond b (digits_of s) None ≡ Some n → (length s ≡ width) × (digits_of s ≡ Some n)
     go true q e = (eqb-true (length s) width q, e)
     go false q e = let z : ◌≡◌ {A = ℕ} 0 1 = cc in absurd (omega arith)
 
@@ -149,7 +141,7 @@ followed_same (b ∷ s) (c ∷ t) v w l d f e =
     let z : b ≡ c = omega arith in
     (omega arith, rw (z, later.1))
 
-pub fixed_same : (width : ℕ) (s t : List ℕ) (n : ℕ) → fixed_digits_of width s ≡ Value n → fixed_digits_of width t ≡ Value n → s ≡ t
+pub fixed_same : (width : ℕ) (s t : List ℕ) (n : ℕ) → fixed_digits_of width s ≡ Some n → fixed_digits_of width t ≡ Some n → s ≡ t
 fixed_same width s t n d f =
     let p = fixed_say width s n d in
     let q = fixed_say width t n f in

@@ -1,8 +1,7 @@
 -- What decimal digits say: byte 48 is the digit 0, byte 57 the digit 9, and the first digit is the highest.
 -- Assumes nothing.
 use Rattle.std.specs.Prelude.{ℕ, ◌+◌, ◌-◌, ◌*◌, List, [], ◌∷◌, Bool, true, cond, ◌&&◌, length, leb, eqb}
-use Rattle.digits.specs.declared.Number.{Number}
-use Rattle.digits.specs.declared.Number.TheVariants.{Value, Other}
+use Rattle.std.specs.Prelude.{Option, Some, None}
 
 abbrev pub is_digit : ℕ → Bool
 is_digit b = leb 48 b && leb b 57
@@ -24,9 +23,9 @@ abbrev pub within : ℕ → ℕ → ℕ → Bool
 within l h n = leb l n && leb n h
 
 -- document 01, "The file": "1 to 15 digits, without sign, compared by value"; leading zeros are allowed
-unfoldable pub digits_of : List ℕ → Number
-digits_of s = cond (within 1 15 (length s) && all_digits s) (Value (number_of s)) Other
+unfoldable pub digits_of : List ℕ → Option ℕ
+digits_of s = cond (within 1 15 (length s) && all_digits s) (Some (number_of s)) None
 
 -- document 01, "The file": "Site IDs are 13 digits, distributor IDs 4, retailer IDs 9": just n digits
-unfoldable pub fixed_digits_of : ℕ → List ℕ → Number
-fixed_digits_of n s = cond (eqb (length s) n) (digits_of s) Other
+unfoldable pub fixed_digits_of : ℕ → List ℕ → Option ℕ
+fixed_digits_of n s = cond (eqb (length s) n) (digits_of s) None

@@ -5,68 +5,41 @@
 ghost use Rattle.std.specs.Prelude.{◌≡◌};
 ghost use Rattle.digits.specs.Digits.{all_digits, digits_of, fixed_digits_of};
 
-#[derive(Clone, Copy)]
-pub enum Number {
-    Value(u64),
-    Other,
-}
-
-fn wide(x: u8) -> u64
-    ensures { result ≡ x }
-{
-    x as u64
-}
-
 // Whether every byte of s is a digit.
 pub fn all_digits(s: &[u8]) -> bool
     ensures { result ≡ all_digits s.now }
 {
-    let mut i: usize = 0;
-    while i < s.len() {
-        let byte = s[i];
-        if byte < 48 {
+    for b in s {
+        if !b.is_ascii_digit() {
             return false;
         }
-        if 57 < byte {
-            return false;
-        }
-        i += 1;
     }
     true
 }
 
 // The number that the bytes of s write, where they are 1 to 15 digits.
-pub fn digits(s: &[u8]) -> Number
+pub fn digits(s: &[u8]) -> Option<u64>
     ensures { result ≡ digits_of s.now }
 {
-    if s.len() == 0 {
-        return Number::Other;
-    }
-    if 15 < s.len() {
-        return Number::Other;
+    if s.is_empty() || 15 < s.len() {
+        return None;
     }
     let mut v: u64 = 0;
-    let mut i: usize = 0;
-    while i < s.len() {
-        let b = s[i];
-        if b < 48 {
-            return Number::Other;
+    for b in s {
+        if !b.is_ascii_digit() {
+            return None;
         }
-        if 57 < b {
-            return Number::Other;
-        }
-        v = v * 10 + wide(b - 48);
-        i += 1;
+        v = v * 10 + u64::from(*b - b'0');
     }
-    Number::Value(v)
+    Some(v)
 }
 
 // The number that the bytes of s write, where they are just n digits.
-pub fn fixed_digits(s: &[u8], n: usize) -> Number
+pub fn fixed_digits(s: &[u8], n: usize) -> Option<u64>
     ensures { result ≡ fixed_digits_of n s.now }
 {
     if s.len() != n {
-        return Number::Other;
+        return None;
     }
     digits(s)
 }

@@ -4,6 +4,7 @@
 --     moment_digits                      a date time is 14 digits
 --     id_again_lem, fixed_again_lem, moment_again    what is written of a field that was read
 -- Assumes nothing.
+use Rattle.std.specs.Prelude.{is_some}
 use mathlib.Core.Path.{◌≡◌, refl, sym, ◌∙◌, ap}
 use mathlib.Core.List.{List, [], ◌∷◌}
 use mathlib.Core.Bool.{Bool, true, false, true≢false, cond, ◌||◌}
@@ -17,10 +18,9 @@ use lib.ListN.{length, get_or, take}
 use lib.Seq.{take-length}
 use Rattle.lists.proofs.Reflected.{empty_is}
 use Rattle.digits.specs.Digits.{is_digit, all_digits, number_of, digits_of, fixed_digits_of}
-use Rattle.digits.specs.declared.Number.TheVariants.{Value}
+use Rattle.std.specs.Prelude.{Option, Some, None}
+use Rattle.calendar.specs.declared.Moment.{Moment}
 use Rattle.digits.proofs.Laws.{both_true, digits_are, digits_say, fixed_say}
-use Rattle.calendar.specs.declared.DateTime.{DateTime as Moment}
-use Rattle.calendar.specs.declared.DateTime.TheVariants.{Second, NotADateTime}
 use Rattle.calendar.specs.Calendar.{date_time_of}
 use Rattle.calendar.proofs.Dates.{date_time_digits}
 use Rattle.amounts.specs.declared.Amount.TheVariants.{Value as Units}
@@ -30,7 +30,7 @@ use Rattle.amounts.proofs.Shape.{magnitude_whole}
 use Rattle.amounts.proofs.Signs.{amount_plain}
 use Rattle.fields.specs.declared.FieldType.{FieldType}
 use Rattle.fields.specs.declared.FieldType.TheVariants.{RecordId, Digits, Number as Num, DateTime}
-use Rattle.fields.specs.Fields.{is_moment, fits_filled, fits_type}
+use Rattle.fields.specs.Fields.{fits_filled, fits_type}
 use Rattle.fields.proofs.Read.{read_value}
 use Rattle.fields.proofs.Fits.{fits_empty, fits_filled_lem}
 use Rattle.writing.specs.Decimals.{digits_in, plain_digits}
@@ -68,20 +68,20 @@ module _ (w n : ℕ) (l : 1 ≤ w) (u : w ≤ 15) (h : n < 10 ^ w) where
       let size = digits_in_length w n in
       let point = no_point_lem t d in
       let whole : whole_part t ≡ t = ap (λ (k : ℕ). take k t) point ∙ take-length t in
-      let says : digits_of (whole_part t) ≡ Value n = ap digits_of whole ∙ digits_are t (omega arith) (omega arith) d ∙ ap Value (digits_in_number w n h) in
-      amount_plain w 0 t (omega arith) u (Value n) (digits_bare t d)
-      (rw sub-zero (magnitude_whole w 0 t (omega arith) (omega arith) n says (omega arith) ∙ ap Value (omega arith)))
+      let says : digits_of (whole_part t) ≡ Some n = ap digits_of whole ∙ digits_are t (omega arith) (omega arith) d ∙ ap Some (digits_in_number w n h) in
+      amount_plain w 0 t (omega arith) u (Some n) (digits_bare t d)
+      (rw sub-zero (magnitude_whole w 0 t (omega arith) (omega arith) n says (omega arith) ∙ ap Some (omega arith)))
 
   pub code_fits : fits_type (Num w 0) (digits_in w n) ≡ true
   code_fits = fits_filled_lem (Num w 0) (digits_in w n) (amount_read w 0 (digits_in w n) (pos n) (omega (arith, digits_in_length w n)) code_says).number
 
 -- ---- a date time
-pub moment_digits : (s : List ℕ) → is_moment (date_time_of s) ≡ true → (length s ≡ 14) × (all_digits s ≡ true)
+pub moment_digits : (s : List ℕ) → is_some (date_time_of s) ≡ true → (length s ≡ 14) × (all_digits s ≡ true)
 moment_digits s e = go (date_time_of s) refl e
   where
-    go : (m : Moment) → date_time_of s ≡ m → is_moment m ≡ true → (length s ≡ 14) × (all_digits s ≡ true)
-    go (Second d t) q e = date_time_digits s d t q
-    go NotADateTime q e = absurd (true≢false (sym e))
+    go : (m : Option Moment) → date_time_of s ≡ m → is_some m ≡ true → (length s ≡ 14) × (all_digits s ≡ true)
+    go (Some m) q e = date_time_digits s m.day m.second q
+    go None q e = absurd (true≢false (sym e))
 
 -- ---- what is written of a field that was read: an empty field stays empty
 kept : (t : FieldType) (again : List ℕ) (s : List ℕ) → fits_type t s ≡ true → (fits_filled t s ≡ true → again ≡ s) → cond (eqb (length s) 0) [] again ≡ s

@@ -1,5 +1,5 @@
 -- Laws of a dispute's line.
---     shown_yes, shown_no, one_shown    the Record ID stands in just one of two fields
+--     chosen, one_shown    the Record ID stands in just one of two fields
 --     start_length, line_start          the start of a line, and the rest of it
 --     first_length, last_length, dispute_length_lem    how many bytes they have
 -- Assumes nothing.
@@ -14,16 +14,16 @@ use Rattle.writing.proofs.Numbers.{digits_in_length, plain_length}
 use Rattle.written_lines.specs.Lines.{line_of}
 use Rattle.written_lines.proofs.Puts.{bytes_of, line_length}
 use Rattle.dispute_lines.specs.declared.Dispute.{Dispute}
-use Rattle.dispute_lines.specs.InsideHalves.{first_fields, last_fields, start_of}
+use Rattle.dispute_lines.specs.InsideHalves.{id_shown, first_fields, last_fields, start_of}
+use Rattle.std.specs.Prelude.{Option}
+use Rattle.std.specs.Bool.{then_some}
 use Rattle.dispute_lines.specs.Line.{shown_id, dispute_line}
 
-pub shown_yes : (b : Bool) (n : ℕ) → b ≡ true → plain_digits n ≡ shown_id b n
+-- the ID of which a choice was made
+pub chosen : (b : Bool) (n : ℕ) (id : Option ℕ) → id ≡ then_some b n → id_shown id ≡ shown_id b n
 unfolding shown_id
-shown_yes b n e = rw e
-
-pub shown_no : (b : Bool) (n : ℕ) → b ≡ false → [] ≡ shown_id b n
-unfolding shown_id
-shown_no b n e = rw e
+chosen true n id e = rw e
+chosen false n id e = rw e
 
 one_shown : (b : Bool) (n : ℕ) → length (shown_id (not b) n) + length (shown_id b n) ≡ length (plain_digits n)
 unfolding shown_id

@@ -1,6 +1,7 @@
 -- What a host is told of a dispute's line that was written: the numbers that it was written of.
 --     reply_says    the whole reply
 -- Assumes nothing.
+use Rattle.std.specs.Prelude.{is_some}
 use mathlib.Core.Path.{◌≡◌, refl, ◌∙◌, ap}
 use mathlib.Core.List.{List}
 use mathlib.Core.Bool.{Bool, true, false, cond, not}
@@ -11,7 +12,6 @@ use lib.IntN.{pos}
 use lib.ListN.{length}
 use Rattle.digits.specs.Digits.{number_of}
 use Rattle.calendar.specs.Calendar.{date_time_of}
-use Rattle.fields.specs.Fields.{is_moment}
 use Rattle.writing.specs.Decimals.{digits_in, plain_digits}
 use Rattle.writing.proofs.Numbers.{digits_in_length}
 use Rattle.writing.proofs.ReadBack.{digits_in_number, plain_some, plain_number}
@@ -72,7 +72,7 @@ unfolding code_said
 code_said_lem n h = rw (ne_eqb (length (digits_in 4 n)) 0 (λ e. omega (arith, digits_in_length 4 n)), code_says 4 n (omega arith) (omega arith) h)
 
 module _ (d : Dispute) (created : List ℕ) (transaction : d.transaction < 10 ^ 15) (retailer : d.retailer < 10 ^ 9) (distributor : d.distributor < 10 ^ 4)
-    (file : d.file < 10 ^ 15) (site : d.site < 10 ^ 13) (id : d.id < 10 ^ 15) (code : d.code < 10 ^ 4) (moment : is_moment (date_time_of created) ≡ true) where
+    (file : d.file < 10 ^ 15) (site : d.site < 10 ^ 13) (id : d.id < 10 ^ 15) (code : d.code < 10 ^ 4) (moment : is_some (date_time_of created) ≡ true) where
   pub reply_says : dispute_reply (read_dispute (dispute_line d created)) ≡ reply_of d created
   unfolding field_said
   reply_says =

@@ -3,6 +3,7 @@
 --     written_plain   its IDs have no leading zeros
 --     read_written    what is written of the fields of a line that was read
 -- Assumes nothing.
+use Rattle.std.specs.Prelude.{is_some}
 use mathlib.Core.Path.{◌≡◌, refl, ◌∙◌, ap, subst}
 use mathlib.Core.List.{List, [], ◌∷◌, ◌++◌}
 use mathlib.Core.Bool.{Bool, true, false, cond, not, ◌||◌}
@@ -21,7 +22,6 @@ use Rattle.digits.specs.Digits.{is_digit, all_digits}
 use Rattle.digits.proofs.Laws.{both_true}
 use Rattle.calendar.specs.Calendar.{date_time_of}
 use Rattle.fields.specs.declared.FieldType.TheVariants.{RecordId, DateTime}
-use Rattle.fields.specs.Fields.{is_moment}
 use Rattle.fields.proofs.Fits.{fits_empty, fits_filled_lem}
 use Rattle.records.specs.Text.{lines_of, fields_of}
 use Rattle.records.specs.Records.{record_fields}
@@ -129,7 +129,7 @@ module _ (d : Dispute) (created : List ℕ) (digits : all_digits created ≡ tru
 
 -- what a dispute's numbers and its Date Created have to be: as many digits as their fields have, and a date time
 module _ (d : Dispute) (created : List ℕ) (transaction : d.transaction < 10 ^ 15) (retailer : d.retailer < 10 ^ 9) (distributor : d.distributor < 10 ^ 4)
-    (file : d.file < 10 ^ 15) (site : d.site < 10 ^ 13) (id : d.id < 10 ^ 15) (code : d.code < 10 ^ 4) (moment : is_moment (date_time_of created) ≡ true) where
+    (file : d.file < 10 ^ 15) (site : d.site < 10 ^ 13) (id : d.id < 10 ^ 15) (code : d.code < 10 ^ 4) (moment : is_some (date_time_of created) ≡ true) where
   fields_fit : fits_dispute (dispute_fields d created) ≡ true
   unfolding fits_dispute
   fields_fit =

@@ -6,10 +6,11 @@ ghost use Rattle.std.specs.Prelude.{◌≡◌, List, ℕ, ◌+◌, ◌≤◌, �
 ghost use Rattle.writing.specs.InsideWriting.{written_at};
 ghost use Rattle.written_lines.specs.InsidePut.{Put};
 ghost use Rattle.written_lines.specs.Lines.{line_of};
-ghost use Rattle.dispute_lines.specs.InsideHalves.{first_fields, last_fields, start_of};
-ghost use Rattle.dispute_lines.specs.Line.{shown_id, dispute_line};
+ghost use Rattle.dispute_lines.specs.InsideHalves.{id_shown, first_fields, last_fields, start_of};
+ghost use Rattle.dispute_lines.specs.Line.{dispute_line};
 
 // What a dispute says in numbers. It is of a period, or of a one-time charge (`once`), whose Record ID is `id`; `file` is the Tariff Bill File Record ID.
+// Both kinds have the same fields, so that the kind is a flag: an enum would be no plainer.
 #[derive(Clone, Copy)]
 pub struct Dispute {
     pub transaction: u64,
@@ -22,7 +23,7 @@ pub struct Dispute {
     pub code: u64,
 }
 
-// A field that is read: 1 and the number that its digits write, or 0 and 0 where it is empty.
+// A field that is read: 1 and the number that its digits write, or 0 and 0 where it is empty (the C interface has no Option).
 #[repr(C)]
 #[derive(Clone, Copy)]
 pub struct DisputeField {
@@ -59,15 +60,15 @@ const COMMA: u8 = 44;
 
 const LINE_END: u8 = 10;
 
-// A Record ID where it is shown, and else an empty field.
-fn put_shown(out: &mut [u8], at: usize, shown: bool, id: u64) -> usize
-    requires { at + length (shown_id shown id) < length out.old }
-    ensures { Put out.old at (shown_id shown id) 44 out.new result }
+// A Record ID, or an empty field where there is none.
+fn put_id(out: &mut [u8], at: usize, id: Option<u64>) -> usize
+    requires { at + length (id_shown id) < length out.old }
+    ensures { Put out.old at (id_shown id) 44 out.new result }
 {
-    if shown {
-        return written_lines::put_plain(out, at, id, COMMA);
+    match id {
+        Some(id) => written_lines::put_plain(out, at, id, COMMA),
+        None => written_lines::put_bytes(out, at, b"", COMMA),
     }
-    written_lines::put_bytes(out, at, b"", COMMA)
 }
 
 // How many bytes the line has, with a Date Created of 14: those of three numbers without leading zeros, and 58 that every line has.
@@ -99,9 +100,9 @@ fn put_last_fields(out: &mut [u8], at: usize, d: Dispute) -> usize
     ensures { (out.new ≡ written_at out.old at (line_of 44 (last_fields d))) × (result ≡ at + length (line_of 44 (last_fields d))) }
 {
     let at8 = written_lines::put_digits(out, at, 13, d.site, COMMA);
-    let at9 = put_shown(out, at8, !d.once, d.id);
+    let at9 = put_id(out, at8, (!d.once).then_some(d.id));
     let at10 = written_lines::put_bytes(out, at9, b"", COMMA);
-    let at11 = put_shown(out, at10, d.once, d.id);
+    let at11 = put_id(out, at10, d.once.then_some(d.id));
     written_lines::put_digits(out, at11, 4, d.code, LINE_END)
 }
 

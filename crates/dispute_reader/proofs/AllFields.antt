@@ -1,75 +1,90 @@
 -- What is read of all fields.
---     sender_told, subject_told     fields 2 to 5, and 6 to 10
---     fields_missed, fields_told    the answer where a field misses its type, and where none does
+--     sender_read, subject_read      fields 2 to 5, and 6 to 10
+--     no_transaction ..              a field that doesn't fit
+--     no_sender, no_subject, no_code, fields_read    where one of all fields doesn't fit, and where all do
 -- Assumes nothing.
-use mathlib.Core.Path.{◌≡◌}
-use mathlib.Core.List.{List, []}
-use mathlib.Core.Bool.{Bool, true, false, ◌&&◌, and_assoc}
+use mathlib.Core.Path.{◌≡◌, ◌∙◌}
+use mathlib.Core.List.{List}
+use mathlib.Core.Bool.{true, false, ◌&&◌, and_assoc, and-false}
 use Prim.Native.Nat.{ℕ}
-use Rattle.digits.proofs.Laws.{both_true}
 use Rattle.fields.specs.declared.FieldType.TheVariants.{RecordId, Digits, DateTime}
+use Rattle.fields.specs.Fields.{fits_type}
+use Rattle.fields.specs.declared.FieldType.TheVariants.{Number as Num}
 use Rattle.records.specs.InsidePlacedFields.{field_among}
-use Rattle.dispute_lines.specs.Reading.{reading, fits_dispute, read_fields, dispute_reply}
-use Rattle.dispute_reader.specs.InsideSaid.{Told, CodeTold, SenderTold, SubjectTold}
-use Rattle.dispute_reader.specs.declared.Said.{Said}
-use Rattle.dispute_reader.specs.declared.CodeRead.{CodeRead}
+use Rattle.dispute_lines.specs.declared.DisputeField.{DisputeField}
+use Rattle.dispute_lines.specs.declared.CodeField.{CodeField}
+use Rattle.dispute_lines.specs.Reading.{reading, field_in, fits_dispute, dispute_reply}
+use Rattle.dispute_reader.specs.InsideSaid.{FieldRead, CodeRead, sender_fits, SenderRead, subject_fits, SubjectRead}
 use Rattle.dispute_reader.specs.declared.Sender.{Sender}
 use Rattle.dispute_reader.specs.declared.Subject.{Subject}
 
-three_true : (a b c : Bool) → a && b && c ≡ true → (a ≡ true) × (b ≡ true) × (c ≡ true)
-three_true a b c e =
-    let p = both_true (a && b) c e in
-    let q = both_true a b p.0 in (q.0, q.1, p.1)
-
-four_true : (a b c d : Bool) → a && b && c && d ≡ true → (a ≡ true) × (b ≡ true) × (c ≡ true) × (d ≡ true)
-four_true a b c d e =
-    let p = both_true (a && b && c) d e in
-    let q = three_true a b c p.0 in (q.0, q.1, q.2, p.1)
-
-five_true : (a b c d e : Bool) → a && b && c && d && e ≡ true → (a ≡ true) × (b ≡ true) × (c ≡ true) × (d ≡ true) × (e ≡ true)
-five_true a b c d e h =
-    let p = both_true (a && b && c && d) e h in
-    let q = four_true a b c d p.0 in (q.0, q.1, q.2, q.3, p.1)
-
 module _ (fields : List (List ℕ)) where
-  pub sender_told : (transaction retailer distributor created : Said) → Told RecordId (field_among fields 2) transaction → Told (Digits 9) (field_among fields 3) retailer → Told (Digits 4) (field_among fields 4) distributor → Told DateTime (field_among fields 5) created
-      → SenderTold fields (record { fits = transaction.fits && retailer.fits && distributor.fits && created.fits; transaction = transaction.field; retailer = retailer.field; distributor = distributor.field; created = created.field })
+  pub sender_read : (transaction retailer distributor created : DisputeField) → FieldRead RecordId (field_among fields 2) transaction → FieldRead (Digits 9) (field_among fields 3) retailer → FieldRead (Digits 4) (field_among fields 4) distributor → FieldRead DateTime (field_among fields 5) created
+      → SenderRead fields (record { transaction = transaction; retailer = retailer; distributor = distributor; created = created })
   unfolding field_among
-  sender_told transaction retailer distributor created a b c d =
-      let all = four_true transaction.fits retailer.fits distributor.fits created.fits in
-      record {
-        fits = rw (a.fits, b.fits, c.fits, d.fits) (simp and_assoc);
-        transaction = λ q. a.says (all q).0;
-        retailer = λ q. b.says (all q).1;
-        distributor = λ q. c.says (all q).2;
-        created = λ q. d.says (all q).3;
-      }
+  sender_read transaction retailer distributor created a b c d =
+      record { fits = rw (a.fits, b.fits, c.fits, d.fits); transaction = a.says; retailer = b.says; distributor = c.says; created = d.says }
 
-  pub subject_told : (file site period child charge : Said) → Told RecordId (field_among fields 6) file → Told (Digits 13) (field_among fields 7) site → Told RecordId (field_among fields 8) period → Told RecordId (field_among fields 9) child → Told RecordId (field_among fields 10) charge
-      → SubjectTold fields (record { fits = file.fits && site.fits && period.fits && child.fits && charge.fits; file = file.field; site = site.field; period = period.field; child = child.field; charge = charge.field })
+  pub subject_read : (file site period child charge : DisputeField) → FieldRead RecordId (field_among fields 6) file → FieldRead (Digits 13) (field_among fields 7) site → FieldRead RecordId (field_among fields 8) period → FieldRead RecordId (field_among fields 9) child → FieldRead RecordId (field_among fields 10) charge
+      → SubjectRead fields (record { file = file; site = site; period = period; child = child; charge = charge })
   unfolding field_among
-  subject_told file site period child charge a b c d e =
-      let all = five_true file.fits site.fits period.fits child.fits charge.fits in
-      record {
-        fits = rw (a.fits, b.fits, c.fits, d.fits, e.fits) (simp and_assoc);
-        file = λ q. a.says (all q).0;
-        site = λ q. b.says (all q).1;
-        period = λ q. c.says (all q).2;
-        child = λ q. d.says (all q).3;
-        charge = λ q. e.says (all q).4;
-      }
+  subject_read file site period child charge a b c d e =
+      record { fits = rw (a.fits, b.fits, c.fits, d.fits, e.fits); file = a.says; site = b.says; period = c.says; child = d.says; charge = e.says }
 
-  module _ (sender : Sender) (subject : Subject) (reason : CodeRead) (a : SenderTold fields sender) (b : SubjectTold fields subject) (c : CodeTold (field_among fields 11) reason) where
-    all_fit : fits_dispute fields ≡ sender.fits && subject.fits && reason.fits
-    unfolding fits_dispute field_among
-    all_fit = rw (a.fits, b.fits, c.fits) (simp and_assoc)
+  -- the first field that doesn't fit
+  pub no_transaction : fits_type RecordId (field_among fields 2) ≡ false → sender_fits fields ≡ false
+  unfolding field_among
+  no_transaction e = rw e
 
-    pub fields_missed : sender.fits && subject.fits && reason.fits ≡ false → dispute_reply (reading 3 []) ≡ dispute_reply (read_fields fields)
-    unfolding read_fields
-    fields_missed e = rw (all_fit, e)
+  pub no_retailer : fits_type (Digits 9) (field_among fields 3) ≡ false → sender_fits fields ≡ false
+  unfolding field_among
+  no_retailer e = simp (e, and-false)
 
-    pub fields_told : sender.fits && subject.fits && reason.fits ≡ true
-        → record {
+  pub no_distributor : fits_type (Digits 4) (field_among fields 4) ≡ false → sender_fits fields ≡ false
+  unfolding field_among
+  no_distributor e = simp (e, and-false)
+
+  pub no_created : fits_type DateTime (field_among fields 5) ≡ false → sender_fits fields ≡ false
+  unfolding field_among
+  no_created e = simp (e, and-false)
+
+  pub no_file : fits_type RecordId (field_among fields 6) ≡ false → subject_fits fields ≡ false
+  unfolding field_among
+  no_file e = rw e
+
+  pub no_site : fits_type (Digits 13) (field_among fields 7) ≡ false → subject_fits fields ≡ false
+  unfolding field_among
+  no_site e = simp (e, and-false)
+
+  pub no_period : fits_type RecordId (field_among fields 8) ≡ false → subject_fits fields ≡ false
+  unfolding field_among
+  no_period e = simp (e, and-false)
+
+  pub no_child : fits_type RecordId (field_among fields 9) ≡ false → subject_fits fields ≡ false
+  unfolding field_among
+  no_child e = simp (e, and-false)
+
+  pub no_charge : fits_type RecordId (field_among fields 10) ≡ false → subject_fits fields ≡ false
+  unfolding field_among
+  no_charge e = simp (e, and-false)
+
+  all_fit : fits_dispute fields ≡ sender_fits fields && (subject_fits fields && fits_type (Num 4 0) (field_in fields 11))
+  unfolding fits_dispute
+  all_fit = simp and_assoc
+
+  pub no_sender : sender_fits fields ≡ false → fits_dispute fields ≡ false
+  no_sender e = rw (all_fit, e)
+
+  pub no_subject : subject_fits fields ≡ false → fits_dispute fields ≡ false
+  no_subject e = rw (all_fit, e) (and-false (sender_fits fields))
+
+  pub no_code : fits_type (Num 4 0) (field_among fields 11) ≡ false → fits_dispute fields ≡ false
+  unfolding field_among
+  no_code e = rw (all_fit, e, and-false (subject_fits fields)) (and-false (sender_fits fields))
+
+  module _ (sender : Sender) (subject : Subject) (code : CodeField) (a : SenderRead fields sender) (b : SubjectRead fields subject) (c : CodeRead (field_among fields 11) code) where
+    pub fields_read : (fits_dispute fields ≡ true)
+        × (record {
           number = 0;
           transaction = sender.transaction;
           retailer = sender.retailer;
@@ -80,9 +95,10 @@ module _ (fields : List (List ℕ)) where
           period = subject.period;
           child = subject.child;
           charge = subject.charge;
-          code = reason.field;
-        } ≡ dispute_reply (read_fields fields)
-    unfolding read_fields field_among
-    fields_told e =
-        let q = three_true sender.fits subject.fits reason.fits e in
-        rw (all_fit, e, a.transaction q.0, a.retailer q.0, a.distributor q.0, a.created q.0, b.file q.1, b.site q.1, b.period q.1, b.child q.1, b.charge q.1, c.says q.2)
+          code = code;
+        } ≡ dispute_reply (reading 0 fields))
+    unfolding field_among
+    fields_read = (
+      all_fit ∙ rw (a.fits, b.fits, c.fits),
+      rw (a.transaction, a.retailer, a.distributor, a.created, b.file, b.site, b.period, b.child, b.charge, c.says),
+    )

@@ -5,6 +5,8 @@
 --     lines_other, line_only      bytes that are no line or more than one, and those that are one
 --     line_placed                 where the first line stands
 -- Assumes nothing.
+use Rattle.std.specs.Prelude.{Option, Some, None, Result}
+use Rattle.std.specs.Option.{ok_or}
 use mathlib.Core.Path.{◌≡◌, sym, ◌∙◌, ap, subst}
 use mathlib.Core.List.{List, []}
 use mathlib.Core.Bool.{Bool, true, false, not, or-true}
@@ -24,6 +26,9 @@ use Rattle.records.proofs.Placed.{placed_at}
 use Rattle.records.proofs.Laws.{record_placed}
 use Rattle.format.specs.Format.{is_printable, line_at}
 use Rattle.dispute_lines.specs.declared.DisputeReply.{DisputeReply}
+use Rattle.dispute_reader.specs.declared.Refusal.{Refusal}
+use Rattle.dispute_reader.specs.declared.Refusal.TheVariants.{Misfit}
+use Rattle.dispute_reader.specs.InsideSaid.{FieldsTold, reply_of}
 use Rattle.dispute_lines.specs.Reading.{reading, field_in, is_no_dispute, is_one_line, read_fields, read_line, read_dispute, dispute_reply}
 
 -- the answer of a line that is no dispute
@@ -53,6 +58,12 @@ module _ (line : List ℕ) where
   unfolding read_line is_no_dispute
   line_passes p q r = rw (p, eq-eqb (length (record_fields line)) 11 q, r)
 
+-- what is told of the fields of a line
+fields_read_lem : (fields : List (List ℕ)) (told : Option DisputeReply) → FieldsTold fields told → reply_of (ok_or told Misfit) ≡ dispute_reply (read_fields fields)
+unfolding read_fields
+fields_read_lem fields (Some reply) h = rw h.0 h.1
+fields_read_lem fields None h = rw h
+
 -- a record of eleven fields
 module _ {s line : List ℕ} {r : Record} (found : RecordFound s line r) (eleven : r.count ≡ 11) where
   pub found_placed : FieldsPlaced s 11 r.starts r.ends
@@ -66,9 +77,11 @@ module _ {s line : List ℕ} {r : Record} (found : RecordFound s line r) (eleven
   unfolding field_among
   found_named {first} {named} e q = sym (q ∙ ap (λ (l : List ℕ). same_bytes l (written "TBD")) (e ∙ ap (λ (fields : List (List ℕ)). field_in fields 1) found_same))
 
-  pub line_read : has_unprintable line ≡ false → is_named line ≡ true → dispute_reply (read_fields (fields_at s 11 r.starts r.ends)) ≡ dispute_reply (read_line line)
-  line_read p q =
-      ap (λ (fields : List (List ℕ)). dispute_reply (read_fields fields)) found_same ∙ line_passes line p (sym found.placed.count ∙ eleven) q
+  pub line_read : has_unprintable line ≡ false → is_named line ≡ true → (told : Option DisputeReply) → FieldsTold (fields_at s 11 r.starts r.ends) told
+      → (reply : Result DisputeReply Refusal) → reply ≡ ok_or told Misfit → reply_of reply ≡ dispute_reply (read_line line)
+  line_read p q told h reply e =
+      ap reply_of e ∙ fields_read_lem (fields_at s 11 r.starts r.ends) told h
+      ∙ ap (λ (fields : List (List ℕ)). dispute_reply (read_fields fields)) found_same ∙ line_passes line p (sym found.placed.count ∙ eleven) q
 
 -- ---- the bytes
 pub lines_other : (bytes : List ℕ) → (length (lines_of bytes) ≡ 1 → ⊥) → refused ≡ dispute_reply (read_dispute bytes)

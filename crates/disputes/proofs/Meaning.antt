@@ -4,6 +4,7 @@
 --     line_most, dispute_fits    how long a line can be, so that the word of an answer has its length
 --     dispute_read       the line that is written is read as its own fields, for every entry, settings and supplied fields
 -- Assumes nothing.
+use Rattle.std.specs.Prelude.{is_some}
 use Prim.Native.Nat.{ℕ, ◌%◌, ◌^◌, ◌≤◌, ◌<◌}
 use mathlib.Core.Path.{◌≡◌, refl, sym, ◌∙◌, ap, subst}
 use mathlib.Core.Logic.{◌↔◌}
@@ -20,7 +21,6 @@ use Rattle.digits.specs.Digits.{all_digits, number_of, digits_of}
 use Rattle.digits.proofs.Laws.{both_true, digits_say, number_bound, ten_room}
 use Rattle.calendar.specs.Calendar.{date_time_of}
 use Rattle.fields.specs.declared.FieldType.TheVariants.{RecordId, DateTime}
-use Rattle.fields.specs.Fields.{is_read, is_moment}
 use Rattle.fields.proofs.Read.{read_value}
 use Rattle.entries.specs.declared.Entry.{Entry}
 use Rattle.entries.specs.Entries.{entry_of, is_held}
@@ -43,9 +43,9 @@ use Rattle.disputes.specs.Disputes.{Supplied, empty_or_unfit, some_unfit, is_hel
 use Rattle.disputes.proofs.SuppliedFields.{id_unfit, moment_unfit}
 
 -- a supplied ID that fits has at most 15 digits
-id_small : (s : List ℕ) → not (is_read (digits_of s)) ≡ false → number_of s < 10 ^ 15
+id_small : (s : List ℕ) → not (is_some (digits_of s)) ≡ false → number_of s < 10 ^ 15
 id_small s e =
-    let read = read_value (digits_of s) (not-false (is_read (digits_of s)) e) in
+    let read = read_value (digits_of s) (not-false (is_some (digits_of s)) e) in
     let is = digits_say s read.0 read.1 in
     ten_room (length s) (number_bound s is.digits) is.few
 
@@ -116,7 +116,7 @@ module _ (s : Supplied) (run : List Entry) (used place : ℕ) (out : List ℕ) w
     transaction : number_of s.transaction < 10 ^ 15
     retailer : s.retailer < 10 ^ 9
     file : number_of s.file < 10 ^ 15
-    moment : is_moment (date_time_of s.created) ≡ true
+    moment : is_some (date_time_of s.created) ≡ true
     entry : EntryFits (entry_of run place)
 
   fitting : Writable → Fitting
@@ -128,7 +128,7 @@ module _ (s : Supplied) (run : List Entry) (used place : ℕ) (out : List ℕ) w
         transaction = id_small s.transaction (sym (id_unfit s.transaction) ∙ unfit.0);
         retailer = omega (arith, retailer_small s.retailer s.distributors w.settings);
         file = id_small s.file (sym (id_unfit s.file) ∙ rest.1);
-        moment = not-false (is_moment (date_time_of s.created)) (sym (moment_unfit s.created) ∙ rest.0);
+        moment = not-false (is_some (date_time_of s.created)) (sym (moment_unfit s.created) ∙ rest.0);
         entry = ((sound_means run used).0 w.sound).fit place w.used_place;
       }
 

@@ -1,10 +1,9 @@
-// The ledger's entries: by value, and in two lent runs of numbers, nine words and two amounts an entry.
+// The ledger's entries: each a value, and a ledger a slice of them.
 
 #![tactic(auto)]
 
-ghost use Rattle.std.specs.Prelude.{◌≡◌, ◌+◌, length};
-ghost use Rattle.entries.specs.Entries.{in_state, period};
-ghost use Rattle.entries.specs.InsideWords.{RoomFor, entry_at, writes, words_at, amounts_at};
+ghost use Rattle.std.specs.Prelude.{◌≡◌};
+ghost use Rattle.entries.specs.Entries.{blank, in_state, period};
 
 use calendar::Period;
 
@@ -13,7 +12,7 @@ pub const ELECTRICITY: u64 = 1;
 
 pub const NATURAL_GAS: u64 = 2;
 
-// "kind (1 file, 2 period, 3 one-time charge)"
+// "kind (1 file, 2 period, 3 one-time charge)": numbers, as a host writes them into its entries.
 pub const FILE: u64 = 1;
 
 pub const PERIOD: u64 = 2;
@@ -66,46 +65,21 @@ impl Entry {
     }
 }
 
-// The entry at a place of the words.
-pub fn entry_at(words: &[u64], amounts: &[i64], at: usize) -> Entry
-    requires { RoomFor (at + 1) words.now amounts.now }
-    ensures { result ≡ entry_at words.now amounts.now at }
+// The entry of zeros: what stands in a place that no entry was written to.
+pub fn blank() -> Entry
+    ensures { result ≡ blank }
 {
-    let w = at * 9;
-    let a = at * 2;
     Entry {
-        sender: words[w],
-        commodity: words[w + 1],
-        kind: words[w + 2],
-        id: words[w + 3],
-        site: words[w + 4],
-        start: words[w + 5],
-        end: words[w + 6],
-        charge: amounts[a],
-        usage: amounts[a + 1],
-        state: words[w + 7],
-        cancels: words[w + 8],
+        sender: 0,
+        commodity: 0,
+        kind: 0,
+        id: 0,
+        site: 0,
+        start: 0,
+        end: 0,
+        charge: 0,
+        usage: 0,
+        state: 0,
+        cancels: 0,
     }
-}
-
-// Writes an entry at a place of the words.
-pub fn set_entry(words: &mut [u64], amounts: &mut [i64], at: usize, e: Entry)
-    requires { RoomFor (at + 1) words.old amounts.old }
-    ensures { (words.new ≡ writes words.old (words_at at e)) × (amounts.new ≡ writes amounts.old (amounts_at at e)) }
-{
-    let w = at * 9;
-    let a = at * 2;
-    let charge = e.charge;
-    let usage = e.usage;
-    words[w] = e.sender;
-    words[w + 1] = e.commodity;
-    words[w + 2] = e.kind;
-    words[w + 3] = e.id;
-    words[w + 4] = e.site;
-    words[w + 5] = e.start;
-    words[w + 6] = e.end;
-    amounts[a] = charge;
-    amounts[a + 1] = usage;
-    words[w + 7] = e.state;
-    words[w + 8] = e.cancels;
 }

@@ -9,8 +9,7 @@ use lib.IntN.{pos}
 use Rattle.lists.specs.First.{first_where}
 use Rattle.lists.specs.Written.{written}
 use Rattle.digits.specs.Digits.{all_digits, followed_by, digits_of}
-use Rattle.calendar.specs.declared.Day.{Day}
-use Rattle.calendar.specs.declared.Day.TheVariants.{At, NotADate}
+use Rattle.std.specs.Prelude.{Option, Some, None}
 use Rattle.calendar.specs.declared.Period.{Period}
 use Rattle.calendar.specs.Calendar.{month_days, first_day, is_date, day_at, day_of}
 use Rattle.calendar.specs.Periods.{shares_day}
@@ -25,14 +24,14 @@ pub data Question : Type 0 where
   share : String → String → String → String → Question
 
 pub data Reading : Type 0 where
-  day_is : Day → Reading
+  day_is : Option ℕ → Reading
   amount_is : Amount → Reading
   sharing : Bool → Reading
 
 -- the day number of a date, for a date
-abbrev day_number : Day → ℕ
-day_number (At d) = d
-day_number NotADate = 0
+abbrev day_number : Option ℕ → ℕ
+day_number (Some d) = d
+day_number None = 0
 
 abbrev period : String → String → Period
 period from to = record { start = day_number (day_of (written from)); end = day_number (day_of (written to)) }
@@ -44,12 +43,12 @@ answer (share from to from' to') = sharing (shares_day (period from to) (period 
 
 abbrev pub examples : List (Question × Reading)
 examples =
-    (day "20000101", day_is (At 0))
-    ∷ (day "20000229", day_is (At 59))
-    ∷ (day "20010101", day_is (At 366))
-    ∷ (day "20991231", day_is (At 36524))
-    ∷ (day "20010229", day_is NotADate)
-    ∷ (day "21000101", day_is NotADate)
+    (day "20000101", day_is (Some 0))
+    ∷ (day "20000229", day_is (Some 59))
+    ∷ (day "20010101", day_is (Some 366))
+    ∷ (day "20991231", day_is (Some 36524))
+    ∷ (day "20010229", day_is None)
+    ∷ (day "21000101", day_is None)
     ∷ (two_places "12.5", amount_is (Value (pos 1250)))
     ∷ (two_places "-0", amount_is (Value (pos 0)))
     ∷ (two_places "12.", amount_is Misses)

@@ -3,8 +3,7 @@
 #![tactic(auto)]
 
 ghost use Rattle.std.specs.Prelude.{◌≡◌};
-ghost use Rattle.calendar.specs.InsideFirstDays.{first_days};
-ghost use Rattle.fields.specs.Fields.{is_moment, fits_type};
+ghost use Rattle.fields.specs.Fields.{fits_type};
 ghost use Rattle.fields.specs.declared.FieldType.TheVariants.{DateTime};
 
 // The types of Tables 4-2 to 4-10. An ID of fixed length is Digits.
@@ -19,22 +18,12 @@ pub enum FieldType {
     Varchar(usize),
 }
 
-fn is_moment(t: calendar::DateTime) -> bool
-    ensures { result ≡ is_moment t }
-{
-    match t {
-        calendar::DateTime::Second(_, _) => true,
-        calendar::DateTime::NotADateTime => false,
-    }
-}
-
-// Whether some bytes fit DateTime, by the calendar's table of first days. An empty field fits every type.
-pub fn is_date_time(table: &[u64], s: &[u8]) -> bool
-    requires { table.now ≡ first_days }
+// Whether some bytes fit DateTime. An empty field fits every type.
+pub fn is_date_time(s: &[u8]) -> bool
     ensures { result ≡ fits_type DateTime s.now }
 {
-    if s.len() == 0 {
+    if s.is_empty() {
         return true;
     }
-    is_moment(calendar::read_date_time(table, s))
+    calendar::date_time_of(s).is_some()
 }

@@ -1,31 +1,25 @@
 -- The TH and OC of a file, read line by line.
 --     reading_none, reading_skip, reading_more    none is read at the start; a line that is neither; a line that is one
---     reading_same                                the same runs by other names
 --     all_bills, all_lines                        after the last line all of them are read
 -- Assumes nothing.
 use mathlib.Core.Path.{◌≡◌, refl, sym, ap, ◌∙◌, subst}
 use mathlib.Core.Bool.{Bool, true, false, cond}
 use mathlib.Core.List.{List, [], ◌∷◌, ◌++◌, map, append-nil}
-use Prim.Native.Nat.{ℕ, suc, ◌+◌, ◌<◌}
+use Prim.Native.Nat.{ℕ, suc, ◌+◌, ◌≤◌, ◌<◌}
 use native.Mathlib.Nat.{add-zero, add-suc, suc-add, not-suc-le-zero}
 use native.Mathlib.Numerals.{add-one}
 use native.Mathlib.Omega.{arith}
-use native.Mathlib.Decide.{dec_lt}
-use lib.IntN.{ℤ}
 use lib.ListN.{length, get_or, set, take, length-append, length-set, get_or-append}
-use lib.Seq.{take-suc, take_all, length-take-le, get_or-append_seam}
+use lib.Seq.{take-suc, take_all, length-take-le, get_or-take, get_or-append_seam}
 use Rattle.lists.specs.Selections.{filter}
 use Rattle.lists.proofs.Selections.{filter_append, map_append}
 use Rattle.lists.proofs.Column.{stored}
 use Rattle.format.specs.Format.{line_at}
 use Rattle.bill_files.specs.Accepted.{Bill, is_bill, bill_in, bills_in, bill_lines, bill_file}
-use Rattle.entries.specs.declared.Entry.{Entry}
-use Rattle.entries.specs.InsideWords.{entry_at, writes, words_at, amounts_at}
-use Rattle.entries.proofs.Room.{room_fewer, room_same}
-use Rattle.entries.proofs.Words.{length_writes, written_here, written_elsewhere}
 use Rattle.booking.specs.Acceptable.{no_bill, bill_at}
-use Rattle.file_bills.specs.InsideBills.{source_entry, Source, reference_in_column, References}
-use Rattle.file_bills.specs.InsideReading.{bills_of, BillRoom, Reading}
+use Rattle.file_bills.specs.declared.SourceBill.{SourceBill}
+use Rattle.file_bills.specs.InsideBills.{source_entry, blank_source, source_at, Source, reference_in_column, References}
+use Rattle.file_bills.specs.InsideReading.{bills_of, Reading}
 
 -- ---- one line more
 module _ (lines : List (List ℕ)) (i : ℕ) (h : i < length lines) where
@@ -68,37 +62,46 @@ module _ {A : Type 0} (xs xs' : List A) (y d : A) (m : ℕ) (long : m ≡ length
   place_count = omega (arith, long, ap length more, length-append xs (y ∷ []))
 
 -- ---- what is read
-pub reading_none : (lines : List (List ℕ)) (words : List ℕ) (amounts : List ℤ) (references at : List ℕ) → Reading lines 0 0 words amounts references at
+pub reading_none : (lines : List (List ℕ)) (sources : List SourceBill) → Reading lines 0 0 sources
 unfolding bill_lines
-reading_none lines words amounts references at = record {
+reading_none lines sources = record {
   few = omega arith;
-  source = record { count = refl; room = record { in_words = omega arith; in_amounts = omega arith }; each = λ k h. absurd (not-suc-le-zero h) };
-  refers = record { room = omega arith; each = λ k h. absurd (not-suc-le-zero h) };
+  room = omega arith;
+  source = record { count = refl; each = λ k h. absurd (not-suc-le-zero h) };
+  refers = record { each = λ k h. absurd (not-suc-le-zero h) };
   count = refl;
   stands = λ k h. absurd (not-suc-le-zero h);
 }
 
-module _ (lines : List (List ℕ)) (i m : ℕ) (words : List ℕ) (amounts : List ℤ) (references at : List ℕ) (h : i < length lines) (R : Reading lines i m words amounts references at) where
+module _ (lines : List (List ℕ)) (i m : ℕ) (sources : List SourceBill) (h : i < length lines) (R : Reading lines i m sources) where
   listed : bill_lines 0 (take (i + 1) lines) ≡ bill_lines 0 (take i lines) ++ cond (is_bill (line_at lines i)) (suc (0 + length (take i lines)) ∷ []) []
   listed = ap (bill_lines 0) (taken lines i h) ∙ lines_append 0 (take i lines) (line_at lines i)
 
-  pub reading_skip : is_bill (line_at lines i) ≡ false → Reading lines (i + 1) m words amounts references at
+  pub reading_skip : is_bill (line_at lines i) ≡ false → Reading lines (i + 1) m sources
   reading_skip e =
       let same = sym (bills_past lines i h e) in
       let also : bill_lines 0 (take (i + 1) lines) ≡ bill_lines 0 (take i lines) =
       listed ∙ ap (λ (t : Bool). bill_lines 0 (take i lines) ++ cond t (suc (0 + length (take i lines)) ∷ []) []) e ∙ append-nil (bill_lines 0 (take i lines)) in
       record {
         few = omega (arith, R.few);
-        source = subst (λ (bs : List Bill). Source bs words amounts m) same R.source;
-        refers = subst (λ (bs : List Bill). References bs references m) same R.refers;
+        room = R.room;
+        source = subst (λ (bs : List Bill). Source bs (take m sources)) same R.source;
+        refers = subst (λ (bs : List Bill). References bs (take m sources)) same R.refers;
         count = R.count ∙ ap length (sym also);
         stands = λ k l. R.stands k l ∙ ap (λ (xs : List ℕ). get_or xs k 0) (sym also);
       }
 
-  module _ (room : BillRoom (i + 1) words amounts references at) (e : Entry) (reference : ℕ) (is : is_bill (line_at lines i) ≡ true)
-      (fits : e ≡ source_entry (bill_in (line_at lines 0) (line_at lines i))) (refers : reference ≡ reference_in_column (bill_in (line_at lines 0) (line_at lines i)).reference) where
-    bills : bills_of lines (i + 1) ≡ bills_of lines i ++ bill_in (line_at lines 0) (line_at lines i) ∷ []
-    bills = bills_here lines i h is
+  module _ (room : m < length sources) (s : SourceBill) (is : is_bill (line_at lines i) ≡ true)
+      (fits : s.entry ≡ source_entry (bill_in (line_at lines 0) (line_at lines i))) (refers : s.reference ≡ reference_in_column (bill_in (line_at lines 0) (line_at lines i)).reference)
+      (placed : s.line ≡ i + 1) where
+    abbrev bills : List Bill
+    bills = bills_of lines (i + 1)
+
+    abbrev after : List SourceBill
+    after = set sources m s
+
+    more : bills ≡ bills_of lines i ++ bill_in (line_at lines 0) (line_at lines i) ∷ []
+    more = bills_here lines i h is
 
     numbers : bill_lines 0 (take (i + 1) lines) ≡ bill_lines 0 (take i lines) ++ (i + 1) ∷ []
     numbers =
@@ -108,43 +111,40 @@ module _ (lines : List (List ℕ)) (i m : ℕ) (words : List ℕ) (amounts : Lis
         next : (n : ℕ) → n ≡ i → suc (0 + n) ≡ i + 1
         next n z = omega (arith, z)
 
-    kept : (k : ℕ) → k < m → bill_at (bills_of lines i) k ≡ bill_at (bills_of lines (i + 1)) k
-    kept = place_kept (bills_of lines i) (bills_of lines (i + 1)) _ no_bill m R.source.count bills
+    long : m ≡ length (bills_of lines i)
+    long = sym (length-take-le m sources R.room) ∙ R.source.count
 
-    last : bill_in (line_at lines 0) (line_at lines i) ≡ bill_at (bills_of lines (i + 1)) m
-    last = place_last (bills_of lines i) (bills_of lines (i + 1)) _ no_bill m R.source.count bills
+    count : m + 1 ≡ length bills
+    count = place_count (bills_of lines i) bills _ no_bill m long more
 
-    each : (k : ℕ) → k < m + 1 → Dec (k < m) → entry_at (writes words (words_at m e)) (writes amounts (amounts_at m e)) k ≡ source_entry (bill_at (bills_of lines (i + 1)) k)
-    each k l (yes q) = written_elsewhere words amounts m e k (λ z. omega (arith, z)) ∙ R.source.each k q ∙ ap source_entry (kept k q)
-    each k l (no q) =
-        let z : m ≡ k = omega (arith, q) in
-        subst (λ (j : ℕ). entry_at (writes words (words_at m e)) (writes amounts (amounts_at m e)) j ≡ source_entry (bill_at (bills_of lines (i + 1)) j)) z
-        (written_here words amounts m e (room_fewer (omega (arith, R.few)) room.entry_room) ∙ fits ∙ ap source_entry last)
+    room_after : m + 1 ≤ length after
+    room_after = omega (arith, room, length-set sources m s)
 
-    pub reading_more : Reading lines (i + 1) (m + 1) (writes words (words_at m e)) (writes amounts (amounts_at m e)) (set references m reference) (set at m (i + 1))
+    -- what each bill that was read says, and the last of them, all of them say
+    each : (P : Bill → SourceBill → Type 0) → ((k : ℕ) → k < length (bills_of lines i) → P (bill_at (bills_of lines i) k) (source_at (take m sources) k))
+        → P (bill_in (line_at lines 0) (line_at lines i)) s → (k : ℕ) → k < length bills → P (bill_at bills k) (source_at (take (m + 1) after) k)
+    each P all here k l =
+        let low : k < m + 1 = omega (arith, l, count) in
+        subst (P (bill_at bills k)) (sym (get_or-take (m + 1) after k blank_source low))
+        (stored blank_source (λ j x. P (bill_at bills j) x) sources m s room
+        (λ j q.
+        subst (λ (b : Bill). P b (source_at sources j)) (place_kept (bills_of lines i) bills _ no_bill m long more j q)
+        (subst (P (bill_at (bills_of lines i) j)) (get_or-take m sources j blank_source q) (all j (omega (arith, q, long)))))
+        (subst (λ (b : Bill). P b s) (place_last (bills_of lines i) bills _ no_bill m long more) here)
+        k low)
+
+    pub reading_more : Reading lines (i + 1) (m + 1) (set sources m s)
     reading_more =
         record {
           few = omega (arith, R.few);
-          source = record {
-            count = place_count (bills_of lines i) (bills_of lines (i + 1)) _ no_bill m R.source.count bills;
-            room = room_same (length_writes words (words_at m e)) (length_writes amounts (amounts_at m e)) (room_fewer (omega (arith, R.few)) room.entry_room);
-            each = λ k l. each k l (dec_lt k m);
-          };
-          refers = record {
-            room = omega (arith, room.references_room, R.few, length-set references m reference);
-            each = stored 0 (λ k v. v ≡ reference_in_column (bill_at (bills_of lines (i + 1)) k).reference) references m reference (omega (arith, room.references_room, R.few))
-                (λ k q. R.refers.each k q ∙ ap (λ (b : Bill). reference_in_column b.reference) (kept k q)) (refers ∙ ap (λ (b : Bill). reference_in_column b.reference) last);
-          };
+          room = room_after;
+          source = record { count = length-take-le (m + 1) after room_after ∙ count; each = each (λ b x. x.entry ≡ source_entry b) R.source.each fits };
+          refers = record { each = each (λ b x. x.reference ≡ reference_in_column b.reference) R.refers.each refers };
           count = place_count (bill_lines 0 (take i lines)) (bill_lines 0 (take (i + 1) lines)) (i + 1) 0 m R.count numbers;
-          stands = stored 0 (λ k v. v ≡ get_or (bill_lines 0 (take (i + 1) lines)) k 0) at m (i + 1) (omega (arith, room.at_room, R.few))
+          stands = stored blank_source (λ k x. x.line ≡ get_or (bill_lines 0 (take (i + 1) lines)) k 0) sources m s room
               (λ k q. R.stands k q ∙ place_kept (bill_lines 0 (take i lines)) (bill_lines 0 (take (i + 1) lines)) (i + 1) 0 m R.count numbers k q)
-              (place_last (bill_lines 0 (take i lines)) (bill_lines 0 (take (i + 1) lines)) (i + 1) 0 m R.count numbers);
+              (placed ∙ place_last (bill_lines 0 (take i lines)) (bill_lines 0 (take (i + 1) lines)) (i + 1) 0 m R.count numbers);
         }
-
-pub reading_same : {lines : List (List ℕ)} {i m : ℕ} {words words' : List ℕ} {amounts amounts' : List ℤ} {references at : List ℕ} → Reading lines i m words amounts references at
-    → words' ≡ words → amounts' ≡ amounts → Reading lines i m words' amounts' references at
-reading_same {lines} {i} {m} {words} {words'} {amounts} {amounts'} {references} {at} R w a =
-    subst (λ (x : List ℕ). Reading lines i m x amounts' references at) (sym w) (subst (λ (x : List ℤ). Reading lines i m words x references at) (sym a) R)
 
 -- ---- at the end
 pub all_bills : (lines : List (List ℕ)) (n : ℕ) → n ≡ length lines → bills_of lines n ≡ (bill_file lines).bills

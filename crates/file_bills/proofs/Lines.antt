@@ -13,40 +13,33 @@ use lib.Dec.{eqb}
 use lib.IntN.{pos}
 use Rattle.lists.specs.Bytes.{same_bytes}
 use Rattle.lists.specs.Written.{written}
-use Rattle.digits.specs.declared.Number.{Number}
-use Rattle.digits.specs.declared.Number.TheVariants.{Value, Other}
+use Rattle.std.specs.Prelude.{Option, Some, None}
 use Rattle.digits.specs.Digits.{digits_of}
-use Rattle.calendar.specs.declared.Day.{Day}
-use Rattle.calendar.specs.declared.Day.TheVariants.{At, NotADate}
 use Rattle.calendar.specs.Calendar.{day_of}
 use Rattle.records.specs.Records.{field, type_in}
 use Rattle.amounts.specs.Amounts.{or_zero}
-use Rattle.columns.specs.Columns.{field_of, field_in, number_in_column, day_in_column, in_column, number_in, charge_in, usage_in, reference, site, start_day, end_day, cancel}
-use Rattle.bill_files.specs.Accepted.{number_or_zero, number_or_none, day_or_zero, sender_in, commodity_in, id_in, is_period, is_bill, bill_in}
+use Rattle.columns.specs.Columns.{field_of, field_in, number_in_column, in_column, number_in, charge_in, usage_in, reference, site, start_day, end_day, cancel}
+use Rattle.bill_files.specs.Accepted.{number_or_zero, sender_in, commodity_in, id_in, is_period, is_bill, bill_in}
+use Rattle.entries.specs.declared.Entry.{Entry}
 use Rattle.booking.specs.Booking.{id_or_zero}
 use Rattle.file_bills.specs.InsideBills.{source_entry, reference_in_column}
-use Rattle.file_bills.specs.InsideReading.{entry_from}
 use Rattle.bill_files.proofs.Sums.{one_counts}
 
 -- ---- numbers that stand as themselves and one
 less : (n : ℕ) → n + 1 - 1 ≡ n
 less n = omega arith
 
-number_less : (x : Number) → number_in_column x - 1 ≡ number_or_zero x
-number_less (Value n) = less n
-number_less Other = refl
+number_less : (x : Option ℕ) → number_in_column x - 1 ≡ number_or_zero x
+number_less (Some n) = less n
+number_less None = refl
 
-day_less : (x : Day) → day_in_column x - 1 ≡ day_or_zero x
-day_less (At n) = less n
-day_less NotADate = refl
+reference_less : (x : Option ℕ) → number_in_column x - 1 ≡ id_or_zero x
+reference_less (Some n) = less n
+reference_less None = refl
 
-reference_less : (x : Number) → number_in_column x - 1 ≡ id_or_zero (number_or_none x)
-reference_less (Value n) = less n
-reference_less Other = refl
-
-reference_kept : (x : Number) → number_in_column x ≡ reference_in_column (number_or_none x)
-reference_kept (Value n) = refl
-reference_kept Other = refl
+reference_kept : (x : Option ℕ) → number_in_column x ≡ reference_in_column x
+reference_kept (Some n) = refl
+reference_kept None = refl
 
 cancel_state : (t : Bool) (x : ℕ) → cond t x 0 ≡ cond (eqb (cond t 4 1) 4) x 0
 cancel_state true x = refl
@@ -74,19 +67,19 @@ site_at : (line : List ℕ) → number_in 3 line - 1 ≡ number_or_zero (digits_
 unfolding number_in in_column
 site_at line = number_less (digits_of (field_in site line))
 
-start_at : (line : List ℕ) → number_in 5 line - 1 ≡ day_or_zero (day_of (field_in start_day line))
+start_at : (line : List ℕ) → number_in 5 line - 1 ≡ number_or_zero (day_of (field_in start_day line))
 unfolding number_in in_column
-start_at line = day_less (day_of (field_in start_day line))
+start_at line = number_less (day_of (field_in start_day line))
 
-end_at : (line : List ℕ) → number_in 6 line - 1 ≡ day_or_zero (day_of (field_in end_day line))
+end_at : (line : List ℕ) → number_in 6 line - 1 ≡ number_or_zero (day_of (field_in end_day line))
 unfolding number_in in_column
-end_at line = day_less (day_of (field_in end_day line))
+end_at line = number_less (day_of (field_in end_day line))
 
 cancel_at : (line : List ℕ) → eqb (number_in 7 line) 1 ≡ same_bytes (field_in cancel line) (written "Y")
 unfolding number_in in_column
 cancel_at line = one_counts (same_bytes (field_in cancel line) (written "Y"))
 
-reference_at : (line : List ℕ) → number_in 4 line - 1 ≡ id_or_zero (number_or_none (digits_of (field_in reference line)))
+reference_at : (line : List ℕ) → number_in 4 line - 1 ≡ id_or_zero (digits_of (field_in reference line))
 unfolding number_in in_column
 reference_at line = reference_less (digits_of (field_in reference line))
 
@@ -98,9 +91,20 @@ pub bill_type : (line : List ℕ) → (eqb (number_in 0 line) 2 || eqb (number_i
 bill_type line = ap (λ (n : ℕ). eqb n 2 || eqb n 7) (type_at_lem line)
 
 pub bill_entry : (header line : List ℕ) (sender commodity : ℕ) → sender ≡ sender_in header → commodity ≡ commodity_in header → is_bill line ≡ true
-    → entry_from sender commodity (eqb (number_in 0 line) 2) (eqb (number_in 7 line) 1) (number_in 1 line) (number_in 3 line) (number_in 5 line) (number_in 6 line) (number_in 4 line) (or_zero (charge_in line)) (or_zero (usage_in line))
-    ≡ source_entry (bill_in header line)
-unfolding entry_from bill_in
+    → ◌≡◌ {A = Entry} (record {
+      sender = sender;
+      commodity = commodity;
+      kind = cond (eqb (number_in 0 line) 2) 2 3;
+      id = number_in 1 line - 1;
+      site = number_in 3 line - 1;
+      start = cond (eqb (number_in 0 line) 2) (number_in 5 line - 1) 0;
+      end = cond (eqb (number_in 0 line) 2) (number_in 6 line - 1) 0;
+      charge = or_zero (charge_in line);
+      usage = cond (eqb (number_in 0 line) 2) (or_zero (usage_in line)) (pos 0);
+      state = cond (eqb (number_in 7 line) 1) 4 1;
+      cancels = cond (eqb (number_in 7 line) 1) (number_in 4 line - 1) 0;
+    }) (source_entry (bill_in header line))
+unfolding bill_in
 bill_entry header line sender commodity s c e =
     (λ t.
     record {
@@ -115,7 +119,7 @@ bill_entry header line sender commodity s c e =
       usage = cond (period t) (or_zero (usage_in line)) (pos 0);
       state = cond (cancel_at line t) 4 1;
       cancels = (ap (λ (b : Bool). cond b (number_in 4 line - 1) 0) (cancel_at line) ∙ ap (λ (x : ℕ). cond (same_bytes (field_in cancel line) (written "Y")) x 0) (reference_at line)
-          ∙ cancel_state (same_bytes (field_in cancel line) (written "Y")) (id_or_zero (number_or_none (digits_of (field_in reference line))))) t;
+          ∙ cancel_state (same_bytes (field_in cancel line) (written "Y")) (id_or_zero (digits_of (field_in reference line)))) t;
     })
   where
     period : eqb (number_in 0 line) 2 ≡ is_period line

@@ -5,15 +5,13 @@
 ghost use Rattle.std.specs.Prelude.{◌≡◌, not, ◌≤◌, ◌<◌, length, get_or};
 ghost use Rattle.lists.specs.Below.{some_below};
 ghost use Rattle.records.specs.InsidePlacedLines.{part};
-ghost use Rattle.tables.specs.Types.{follow_table};
 ghost use Rattle.format.specs.Format.{is_printable, unformatted, misplaced, first_misplaced};
 
 // Whether a byte of s is not 32 to 126, one byte after the other.
 fn has_unprintable_byte(s: &[u8]) -> bool
     ensures { result ≡ some_below (λ i. not (is_printable (get_or s.now i 0))) (length s.now) }
 {
-    let mut i: usize = 0;
-    while i < s.len() {
+    for i in 0..s.len() {
         let b = s[i];
         if b < 32 {
             return true;
@@ -21,7 +19,6 @@ fn has_unprintable_byte(s: &[u8]) -> bool
         if 126 < b {
             return true;
         }
-        i += 1;
     }
     false
 }
@@ -32,8 +29,7 @@ fn block_has_unprintable(s: &[u8]) -> bool
     ensures { result ≡ some_below (λ i. not (is_printable (get_or s.now i 0))) 32 }
 {
     let mut found = false;
-    let mut i: usize = 0;
-    while i < 32 {
+    for i in 0..32 {
         let b = s[i];
         if b < 32 {
             found = true;
@@ -41,7 +37,6 @@ fn block_has_unprintable(s: &[u8]) -> bool
         if 126 < b {
             found = true;
         }
-        i += 1;
     }
     found
 }
@@ -54,12 +49,11 @@ pub fn has_unprintable(s: &[u8]) -> bool
     if n < 32 {
         return has_unprintable_byte(s);
     }
-    let mut i: usize = 0;
-    while i < n - 32 {
+    for k in 0..(n - 1) / 32 {
+        let i = k * 32;
         if block_has_unprintable(&s[i..i + 32]) {
             return true;
         }
-        i += 32;
     }
     block_has_unprintable(&s[n - 32..])
 }
@@ -81,9 +75,9 @@ pub fn is_unformatted(file: &[u8], a: usize, e: usize) -> bool
     count != tables::field_count(record_type)
 }
 
-// Whether the type at i may not stand there, by the table of which type may follow which.
-fn is_misplaced(table: &[[bool; 9]; 9], types: &[u64], i: usize) -> bool
-    requires { (table.now ≡ follow_table) × (i < length types.now) }
+// Whether the type at i may not stand there.
+fn is_misplaced(types: &[u64], i: usize) -> bool
+    requires { i < length types.now }
     ensures { result ≡ misplaced types.now i }
 {
     let present = types[i];
@@ -95,20 +89,17 @@ fn is_misplaced(table: &[[bool; 9]; 9], types: &[u64], i: usize) -> bool
     if i == 0 {
         return present != tables::FH;
     }
-    !tables::may_follow(table, types[i - 1], present)
+    !tables::may_follow(types[i - 1], present)
 }
 
 // Test 4.
 pub fn first_misplaced(types: &[u64]) -> usize
     ensures { result ≡ first_misplaced types.now }
 {
-    let table = tables::follow_table();
-    let mut i: usize = 0;
-    while i < types.len() {
-        if is_misplaced(&table, types, i) {
+    for i in 0..types.len() {
+        if is_misplaced(types, i) {
             return i;
         }
-        i += 1;
     }
-    i
+    types.len()
 }

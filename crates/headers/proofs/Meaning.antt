@@ -14,8 +14,7 @@ use lib.IntN.{pos}
 use Rattle.lists.specs.Bytes.{same_bytes}
 use Rattle.lists.proofs.Below.{some_holds, some_is}
 use Rattle.lists.proofs.Bytes.{same_is, is_same}
-use Rattle.digits.specs.declared.Number.{Number}
-use Rattle.digits.specs.declared.Number.TheVariants.{Value, Other}
+use Rattle.std.specs.Prelude.{Option, Some, None}
 use Rattle.digits.specs.Digits.{fixed_digits_of}
 use Rattle.amounts.specs.Amounts.{amount_of, or_zero}
 use Rattle.totals.proofs.Laws.{same_is as amounts-equal, is_same as equal-amounts}
@@ -25,16 +24,16 @@ use Rattle.headers.specs.Meaning.{Listed}
 use Rattle.headers.specs.InsideSteps.{is_group}
 
 -- ---- test 11
-pub is_value_lem : (n : ℕ) (read : Number) → is_value n read ≡ true → read ≡ Value n
-is_value_lem n (Value m) e = ap Value (eqb-true m n e)
-is_value_lem n Other e = let z : ◌≡◌ {A = ℕ} 0 1 = cc in absurd (omega arith)
+pub is_value_lem : (n : ℕ) (read : Option ℕ) → is_value n read ≡ true → read ≡ Some n
+is_value_lem n (Some m) e = ap Some (eqb-true m n e)
+is_value_lem n None e = let z : ◌≡◌ {A = ℕ} 0 1 = cc in absurd (omega arith)
 
-pub value_is : (n : ℕ) (read : Number) → read ≡ Value n → is_value n read ≡ true
+pub value_is : (n : ℕ) (read : Option ℕ) → read ≡ Some n → is_value n read ≡ true
 value_is n read e = ap (is_value n) e ∙ eq-eqb n n refl
 
 module _ (retailer : ℕ) (header : List ℕ) where
-  pub ours_is : (is_ours retailer header ≡ true → fixed_digits_of 9 (field 4 header) ≡ Value retailer)
-      × (fixed_digits_of 9 (field 4 header) ≡ Value retailer → is_ours retailer header ≡ true)
+  pub ours_is : (is_ours retailer header ≡ true → fixed_digits_of 9 (field 4 header) ≡ Some retailer)
+      × (fixed_digits_of 9 (field 4 header) ≡ Some retailer → is_ours retailer header ≡ true)
   unfolding is_ours
   ours_is = let read = fixed_digits_of 9 (field 4 header) in (is_value_lem retailer read, value_is retailer read)
 

@@ -3,17 +3,16 @@
 use Rattle.std.specs.Prelude.{ℕ, ◌*◌, ◌/◌, List, Bool, false, length, take, drop, eqb, pos}
 use Rattle.lists.specs.Below.{some_below}
 use Rattle.lists.specs.Bytes.{same_bytes}
-use Rattle.digits.specs.declared.Number.{Number}
-use Rattle.digits.specs.declared.Number.TheVariants.{Value, Other}
+use Rattle.std.specs.Prelude.{Option, Some, None}
 use Rattle.digits.specs.Digits.{fixed_digits_of}
 use Rattle.amounts.specs.Amounts.{amount_of, or_zero}
 use Rattle.totals.specs.Totals.{sameℤ}
 use Rattle.records.specs.Records.{field}
 
 -- ---- 11: "FH's retailer is ours"
-abbrev pub is_value : ℕ → Number → Bool
-is_value n (Value m) = eqb m n
-is_value n Other = false
+abbrev pub is_value : ℕ → Option ℕ → Bool
+is_value n (Some m) = eqb m n
+is_value n None = false
 
 unfoldable pub is_ours : ℕ → List ℕ → Bool
 is_ours retailer header = is_value retailer (fixed_digits_of 9 (field 4 header))

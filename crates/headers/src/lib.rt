@@ -10,8 +10,6 @@ ghost use Rattle.totals.specs.Totals.{sameℤ};
 ghost use Rattle.headers.specs.Headers.{is_value};
 ghost use Rattle.headers.specs.InsideSteps.{is_sender};
 
-use digits::Number;
-
 // Test 11: whether the retailer that the header says is the given one. A number stands as itself and one; 0 says none.
 pub fn is_ours(said: u64, retailer: u64) -> bool
     ensures { result ≡ eqb said (retailer + 1) }
@@ -22,28 +20,16 @@ pub fn is_ours(said: u64, retailer: u64) -> bool
     said - 1 == retailer
 }
 
-// Whether what was read is the number n.
-fn is_value(read: Number, n: u64) -> bool
-    ensures { result ≡ is_value n read }
-{
-    match read {
-        Number::Value(m) => m == n,
-        Number::Other => false,
-    }
-}
-
 // Whether one of the distributors' groups of four bytes is four digits whose number is the sender.
 fn is_among(distributors: &[u8], sender: u64) -> bool
     ensures { result ≡ some_below (is_sender distributors.now sender) (length distributors.now / 4) }
 {
-    let mut g: usize = 0;
-    while g < distributors.len() / 4 {
+    for g in 0..distributors.len() / 4 {
         let start = 4 * g;
         let end = start + 4;
-        if is_value(digits::fixed_digits(&distributors[start..end], 4), sender) {
+        if digits::fixed_digits(&distributors[start..end], 4) == Some(sender) {
             return true;
         }
-        g += 1;
     }
     false
 }

@@ -2,7 +2,7 @@
 
 #![tactic(auto)]
 
-ghost use Rattle.std.specs.Prelude.{◌≡◌, false, cond, not, ◌-◌, ◌≤◌, eqb, length};
+ghost use Rattle.std.specs.Prelude.{◌≡◌, false, cond, not, ◌+◌, ◌-◌, ◌*◌, ◌≤◌, ◌<◌, eqb, length};
 ghost use Rattle.tables.specs.Groups.{at};
 ghost use Rattle.identity.specs.Identity.{first_repeated};
 
@@ -17,22 +17,13 @@ pub fn is_unlike(place: u64, own: u64, theirs: &[u64]) -> bool
     own != theirs[place as usize - 1]
 }
 
-// Test 9 of a file of at most 1,024 records: a small tree is soon set to 0.
-fn first_of_few(ids: &[u64]) -> usize
-    requires { length ids.now ≤ 1024 }
+// Test 9, by a tree of so many words and buckets. A small tree is soon set to 0.
+fn first_by_tree<const WORDS: usize>(ids: &[u64], buckets: usize) -> usize
+    requires { (0 < buckets) × (buckets ≤ 65536) × (buckets + 2 * length ids.now ≤ WORDS) × (WORDS ≤ 65536) }
     ensures { result ≡ first_repeated ids.now }
 {
-    let mut tree = [0u16; 3072];
-    buckets::first_repeated(ids, ids.len(), 1024, &mut tree)
-}
-
-// Test 9 of a file of at most 4,096 records.
-fn first_of_many(ids: &[u64]) -> usize
-    requires { length ids.now ≤ 4096 }
-    ensures { result ≡ first_repeated ids.now }
-{
-    let mut tree = [0u16; 16384];
-    buckets::first_repeated(ids, ids.len(), 8192, &mut tree)
+    let mut tree = [0u16; WORDS];
+    buckets::first_repeated(ids, buckets, &mut tree)
 }
 
 // Test 9: the first record whose ID an earlier one has, or their number.
@@ -41,7 +32,7 @@ pub fn first_repeated(ids: &[u64]) -> usize
     ensures { result ≡ first_repeated ids.now }
 {
     if ids.len() <= 1024 {
-        return first_of_few(ids);
+        return first_by_tree::<3072>(ids, 1024);
     }
-    first_of_many(ids)
+    first_by_tree::<16384>(ids, 8192)
 }

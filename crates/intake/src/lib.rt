@@ -13,7 +13,6 @@ ghost use Rattle.refusals.specs.Check.{check_of};
 ghost use Rattle.refusals.specs.Answers.{packed, check_answer, day_answer, code_answer};
 ghost use Rattle.ledger.specs.Ledger.{totals_result, find_result};
 ghost use Rattle.booking.specs.Booking.{input_of};
-ghost use Rattle.ledger.specs.InsideHeld.{held_result};
 ghost use Rattle.ledger.specs.Replies.{totals_reply, find_reply};
 ghost use Rattle.dispute_lines.specs.Reading.{read_dispute, dispute_reply};
 ghost use Rattle.disputes.specs.Disputes.{supplied, Disputed};
@@ -22,7 +21,7 @@ ghost use Rattle.lent_ledger.specs.BookReplies.{HostBooked};
 use amounts::AmountReply;
 use dispute_lines::DisputeReply;
 use entries::Entry;
-use ledger::{FindReply, HeldReply, TotalsReply};
+use ledger::{FindReply, TotalsReply};
 use lent_ledger::BookReply;
 
 // Check: the first refusal of a file, as its number and line; 0 and 0 when all tests pass.
@@ -30,8 +29,10 @@ use lent_ledger::BookReply;
 pub extern "C" fn intake_check(retailer: u64, distributors: &[u8], file: &[u8]) -> u64
     ensures { result ≡ packed (check_answer (check_of retailer distributors.now file.now)) }
 {
-    let outcome = validation::check(retailer, distributors, file);
-    outcome.number * 4294967296 + outcome.line
+    match validation::check(retailer, distributors, file) {
+        Ok(()) => 0,
+        Err(refusal) => refusal.number * 4294967296 + refusal.line,
+    }
 }
 
 // The day of a date; 3 if it isn't one.
@@ -47,7 +48,7 @@ pub extern "C" fn intake_day(date: &[u8]) -> u64
 pub extern "C" fn intake_amount(field: &[u8], precision: u64, scale: u64) -> AmountReply
     ensures { result ≡ amount_reply (amount_of precision scale field.now) }
 {
-    amounts::amount_reply_for(amounts::amount_of(field, precision as usize, scale as usize))
+    AmountReply::from(amounts::amount_of(field, precision as usize, scale as usize))
 }
 
 // The rejection code of a test; 107 if it isn't one of Table 5-1 that document 01 lists.
@@ -58,8 +59,7 @@ pub extern "C" fn intake_code(test: u64) -> u64
     refusals::code_word(test)
 }
 
-// Book: refusals in document 01's order, which leave the run as it was lent; else the entries. The used count afterwards is the one before and the entries added. A
-// small run has words of its own, here as below: setting those of 8,192 entries to 0 takes longer than booking a few records.
+// Book: refusals in document 01's order, which leave the run as it was lent; else the entries. The used count afterwards is the one before and the entries added.
 #[unsafe(no_mangle)]
 pub extern "C" fn intake_book(
     retailer: u64,
@@ -70,47 +70,7 @@ pub extern "C" fn intake_book(
 ) -> BookReply
     ensures { HostBooked (input_of retailer distributors.now file.now run.old used) result run.new }
 {
-    let places = lent_ledger::places_told(file, run.len(), used);
-    if places <= 2048 {
-        let mut few_words = [0u64; 18432];
-        let mut few_amounts = [0i64; 4096];
-        return lent_ledger::book_in(
-            retailer,
-            distributors,
-            file,
-            run,
-            used,
-            places,
-            &mut few_words,
-            &mut few_amounts,
-        );
-    }
-    if places <= 5120 {
-        let mut some_words = [0u64; 46080];
-        let mut some_amounts = [0i64; 10240];
-        return lent_ledger::book_in(
-            retailer,
-            distributors,
-            file,
-            run,
-            used,
-            places,
-            &mut some_words,
-            &mut some_amounts,
-        );
-    }
-    let mut words = [0u64; 73728];
-    let mut amounts = [0i64; 16384];
-    lent_ledger::book_in(
-        retailer,
-        distributors,
-        file,
-        run,
-        used,
-        places,
-        &mut words,
-        &mut amounts,
-    )
+    lent_ledger::book(retailer, distributors, file, run, used)
 }
 
 // Totals: for live and for held entries the charge, the usage in KWH and the usage in GJ.
@@ -118,19 +78,7 @@ pub extern "C" fn intake_book(
 pub extern "C" fn intake_totals(run: &[Entry], used: usize) -> TotalsReply
     ensures { result ≡ totals_reply (totals_result run.now used) }
 {
-    if used <= 1024 {
-        let mut few_words = [0u64; 9216];
-        let mut few_amounts = [0i64; 2048];
-        return lent_ledger::totals_in(run, used, &mut few_words, &mut few_amounts);
-    }
-    if used <= 4096 {
-        let mut some_words = [0u64; 36864];
-        let mut some_amounts = [0i64; 8192];
-        return lent_ledger::totals_in(run, used, &mut some_words, &mut some_amounts);
-    }
-    let mut words = [0u64; 73728];
-    let mut amounts = [0i64; 16384];
-    lent_ledger::totals_in(run, used, &mut words, &mut amounts)
+    TotalsReply::from(ledger::totals_of(run, used))
 }
 
 // Find: the place, from 0, of the live period of a site that has a day.
@@ -138,38 +86,7 @@ pub extern "C" fn intake_totals(run: &[Entry], used: usize) -> TotalsReply
 pub extern "C" fn intake_find(run: &[Entry], used: usize, site: u64, day: u64) -> FindReply
     ensures { result ≡ find_reply (find_result run.now used site day) }
 {
-    if used <= 1024 {
-        let mut few_words = [0u64; 9216];
-        let mut few_amounts = [0i64; 2048];
-        return lent_ledger::find_in(run, used, site, day, &mut few_words, &mut few_amounts);
-    }
-    if used <= 4096 {
-        let mut some_words = [0u64; 36864];
-        let mut some_amounts = [0i64; 8192];
-        return lent_ledger::find_in(run, used, site, day, &mut some_words, &mut some_amounts);
-    }
-    let mut words = [0u64; 73728];
-    let mut amounts = [0i64; 16384];
-    lent_ledger::find_in(run, used, site, day, &mut words, &mut amounts)
-}
-
-// The held entry at a place, from which a dispute is written.
-fn held_entry(run: &[Entry], used: usize, place: usize) -> HeldReply
-    ensures { result ≡ held_result run.now used place }
-{
-    if used <= 1024 {
-        let mut few_words = [0u64; 9216];
-        let mut few_amounts = [0i64; 2048];
-        return lent_ledger::held_in(run, used, place, &mut few_words, &mut few_amounts);
-    }
-    if used <= 4096 {
-        let mut some_words = [0u64; 36864];
-        let mut some_amounts = [0i64; 8192];
-        return lent_ledger::held_in(run, used, place, &mut some_words, &mut some_amounts);
-    }
-    let mut words = [0u64; 73728];
-    let mut amounts = [0i64; 16384];
-    lent_ledger::held_in(run, used, place, &mut words, &mut amounts)
+    FindReply::from(ledger::find(run, used, site, day))
 }
 
 // Dispute: one TBD line of the held entry at a place, written into lent bytes; its length, or the first refusal, which leaves every byte.
@@ -187,7 +104,7 @@ pub extern "C" fn intake_dispute(
 ) -> u64
     ensures { Disputed (supplied retailer distributors.now transaction.now created.now file.now) run.now used place out.old result out.new }
 {
-    let found = held_entry(run, used, place);
+    let found = ledger::held_entry(run, used, place);
     disputes::dispute(
         retailer,
         distributors,

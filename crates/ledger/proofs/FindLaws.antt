@@ -1,63 +1,66 @@
--- The result of Find, as the code looks for it: in the words, and up to the used count.
+-- The result of Find, as the code looks for it.
 --     Told, find_is           what each answer says of the three tests and the place, and that they give its result
---     place_words             the place, looked for in the words
---     find_words              the result, by the place among the entries in use
+--     find_used               the result in a sound ledger, by the place among the entries in use
+--     position_said           the place among them, as `position` finds it
+--     find_out, find_said     it is 106; it is what the search for the place answers
 -- Assumes nothing.
-use mathlib.Core.Path.{◌≡◌, refl, ◌∙◌, ap, subst}
+use Rattle.std.specs.Prelude.{Result, Ok, Err, Some, None, MatchOption}
+use Rattle.std.specs.Prelude as std
+use mathlib.Core.Path.{◌≡◌, refl, sym, subst}
 use mathlib.Core.Logic.{◌↔◌}
 use mathlib.Core.List.{List}
 use mathlib.Core.Bool.{Bool, true, false, cond}
-use mathlib.Core.Option.{none, some}
-use Prim.Native.Nat.{ℕ}
-use lib.IntN.{ℤ}
+use Rattle.std.specs.Prelude.{Some, None}
+use Prim.Native.Nat.{ℕ, ◌≤◌, ◌<◌}
+use native.Mathlib.Omega.{arith}
+use borrow.Author.Tests.{lt-ltb, le-ltb}
 use lib.Dec.{ltb}
 use lib.ListN.{length, take}
-use Rattle.lists.specs.Below.{first_below}
-use Rattle.lists.proofs.Below.{first_same}
+use Rattle.std.specs.List.{HoldsAt, AllWithin}
+use Rattle.lists.proofs.Below.{first_is, none_is_end}
 use Rattle.entries.specs.declared.Entry.{Entry}
-use Rattle.entries.specs.Entries.{entry_of}
-use Rattle.entries.specs.InsideWords.{entry_at, entries_of}
-use Rattle.entries.proofs.Words.{length_entries, entry_of_lem}
+use Rattle.entries.specs.Entries.{blank, entry_of}
 use Rattle.soundness.specs.Sound.{is_sound}
-use Rattle.ledger.specs.declared.Found.{Found}
-use Rattle.ledger.specs.declared.Found.TheVariants as found
+use Rattle.ledger.specs.declared.Refusal.{Refusal}
+use Rattle.ledger.specs.declared.Refusal.TheVariants as refusal
 use Rattle.ledger.specs.Ledger.{is_askable, covers, place_of, FindResult, find_result_of, find_result}
 use Rattle.ledger.specs.InsideResults.{result_of_found}
 use Rattle.ledger.proofs.Answers.{found_answer}
-use Rattle.ledger.proofs.SoundLaws.{words_used}
 
 -- ---- the result of Find, by its three tests and the place
 abbrev pub resulted : Bool → Bool → Bool → ℕ → FindResult
-resulted sound askable somewhere place = cond sound (cond askable (find_result_of 0 (cond somewhere (some place) none)) (find_result_of 106 none)) (find_result_of 105 none)
+resulted sound askable somewhere place = cond sound (cond askable (find_result_of 0 (cond somewhere (Some place) None)) (find_result_of 106 None)) (find_result_of 105 None)
 
 -- what each answer says of them
-abbrev pub Told : Bool → Bool → Bool → ℕ → Found → Type 0
-Told sound askable somewhere place found.Unsound = sound ≡ false
-Told sound askable somewhere place found.OutOfRange = (sound ≡ true) × (askable ≡ false)
-Told sound askable somewhere place found.None = (sound ≡ true) × (askable ≡ true) × (somewhere ≡ false)
-Told sound askable somewhere place (found.At i) = (sound ≡ true) × (askable ≡ true) × (somewhere ≡ true) × (place ≡ i)
+abbrev pub Told : Bool → Bool → Bool → ℕ → Result (std.Option ℕ) Refusal → Type 0
+Told sound askable somewhere place (Ok (Some i)) = (sound ≡ true) × (askable ≡ true) × (somewhere ≡ true) × (place ≡ i)
+Told sound askable somewhere place (Ok None) = (sound ≡ true) × (askable ≡ true) × (somewhere ≡ false)
+Told sound askable somewhere place (Err refusal.Unsound) = sound ≡ false
+Told sound askable somewhere place (Err refusal.OutOfRange) = (sound ≡ true) × (askable ≡ false)
+Told sound askable somewhere place (Err refusal.NotHeld) = ⊥
 
-told : (sound askable somewhere : Bool) (place : ℕ) (r : Found) → resulted sound askable somewhere place ≡ result_of_found r → Told sound askable somewhere place r
-told false askable somewhere place r e = subst (Told false askable somewhere place) (found_answer found.Unsound r e) refl
-told true false somewhere place r e = subst (Told true false somewhere place) (found_answer found.OutOfRange r e) (refl, refl)
-told true true false place r e = subst (Told true true false place) (found_answer found.None r e) (refl, refl, refl)
-told true true true place r e = subst (Told true true true place) (found_answer (found.At place) r e) (refl, refl, refl, refl)
+told : (sound askable somewhere : Bool) (place : ℕ) (r : Result (std.Option ℕ) Refusal) → resulted sound askable somewhere place ≡ result_of_found r → Told sound askable somewhere place r
+told false askable somewhere place r e = subst (Told false askable somewhere place) (found_answer (Err refusal.Unsound) r e) refl
+told true false somewhere place r e = subst (Told true false somewhere place) (found_answer (Err refusal.OutOfRange) r e) (refl, refl)
+told true true false place r e = subst (Told true true false place) (found_answer (Ok None) r e) (refl, refl, refl)
+told true true true place r e = subst (Told true true true place) (found_answer (Ok (Some place)) r e) (refl, refl, refl, refl)
 
-answers : (sound askable somewhere : Bool) (place : ℕ) (r : Found) → Told sound askable somewhere place r → resulted sound askable somewhere place ≡ result_of_found r
-answers sound askable somewhere place found.Unsound e = rw e
-answers sound askable somewhere place found.OutOfRange e = rw (e.0, e.1)
-answers sound askable somewhere place found.None e = rw (e.0, e.1, e.2)
-answers sound askable somewhere place (found.At i) e = rw (e.0, e.1, e.2, e.3)
+answers : (sound askable somewhere : Bool) (place : ℕ) (r : Result (std.Option ℕ) Refusal) → Told sound askable somewhere place r → resulted sound askable somewhere place ≡ result_of_found r
+answers sound askable somewhere place (Ok (Some i)) e = rw (e.0, e.1, e.2, e.3)
+answers sound askable somewhere place (Ok None) e = rw (e.0, e.1, e.2)
+answers sound askable somewhere place (Err refusal.Unsound) e = rw e
+answers sound askable somewhere place (Err refusal.OutOfRange) e = rw (e.0, e.1)
+answers sound askable somewhere place (Err refusal.NotHeld) e = absurd e
 
 module _ (run : List Entry) (used site day : ℕ) where
   -- the place among the entries in use
   abbrev pub place_used : ℕ
   place_used = place_of site day (take used run)
 
-  abbrev pub ToldBy : Found → Type 0
+  abbrev pub ToldBy : Result (std.Option ℕ) Refusal → Type 0
   ToldBy r = Told (is_sound run used) (is_askable site day) (ltb place_used (length (take used run))) place_used r
 
-  pub find_is : (r : Found) → (find_result run used site day ≡ result_of_found r) ↔ ToldBy r
+  pub find_is : (r : Result (std.Option ℕ) Refusal) → (find_result run used site day ≡ result_of_found r) ↔ ToldBy r
   unfolding find_result
   find_is r =
       let sound = is_sound run used in
@@ -65,21 +68,30 @@ module _ (run : List Entry) (used site day : ℕ) where
       let somewhere = ltb place_used (length (take used run)) in
       (told sound askable somewhere place_used r, answers sound askable somewhere place_used r)
 
--- ---- in the words
-module _ (words : List ℕ) (amounts : List ℤ) (site day : ℕ) where
-  -- the entry at a place of the words covers the day
-  abbrev pub covers_at : ℕ → Bool
-  covers_at i = covers site day (entry_at words amounts i)
+  pub find_used : is_sound run used ≡ true → (r : Result (std.Option ℕ) Refusal) → Told true (is_askable site day) (ltb place_used (length (take used run))) place_used r
+      → find_result run used site day ≡ result_of_found r
+  find_used sound r is = (find_is r).1 (rw sound is)
 
-  pub place_words : (n : ℕ) → place_of site day (entries_of words amounts n) ≡ first_below covers_at n
-  unfolding place_of
-  place_words n =
-      ap (first_below (λ (i : ℕ). covers site day (entry_of (entries_of words amounts n) i))) (length_entries words amounts n)
-      ∙ first_same (λ (i : ℕ). covers site day (entry_of (entries_of words amounts n) i)) covers_at n (λ i h. ap (covers site day) (entry_of_lem words amounts n i h))
+  pub find_out : is_sound run used ≡ true → is_askable site day ≡ false → find_result run used site day ≡ find_result_of 106 None
+  find_out sound out = find_used sound (Err refusal.OutOfRange) (refl, out)
 
-  pub find_words : (places used : ℕ) → is_sound (entries_of words amounts places) used ≡ true → (r : Found)
-      → (let place = place_of site day (entries_of words amounts used) in Told true (is_askable site day) (ltb place used) place r)
-      → find_result (entries_of words amounts places) used site day ≡ result_of_found r
-  find_words places used sound r is =
-      (find_is (entries_of words amounts places) used site day r).1
-      (rw (sound, words_used words amounts places used sound, length_entries words amounts used) is)
+  -- what the search for the place answers
+  module _ (sound : is_sound run used ≡ true) (askable : is_askable site day ≡ true) (es : List Entry) (used_are : es ≡ take used run) where
+    pub find_said : (r : std.Option ℕ) → MatchOption r (length es ≤ place_of site day es) (λ p. (p < length es) × (place_of site day es ≡ p))
+        → result_of_found (Ok r) ≡ find_result run used site day
+    find_said None past =
+        let past_used = subst (λ (l : List Entry). length l ≤ place_of site day l) used_are past in
+        sym (find_used sound (Ok None) (refl, askable, le-ltb place_used (length (take used run)) past_used))
+    find_said (Some p) at =
+        let at_used = subst (λ (l : List Entry). (p < length l) × (place_of site day l ≡ p)) used_are at in
+        let inside : ltb place_used (length (take used run)) ≡ true = lt-ltb place_used (length (take used run)) (omega (arith, at_used)) in
+        sym (find_used sound (Ok (Some p)) (refl, askable, inside, at_used.1))
+
+-- ---- the place of the first entry that covers the day, as `position` finds it
+pub position_said : (site day : ℕ) (es : List Entry) (r : std.Option ℕ)
+    → MatchOption r (AllWithin (λ (e : Entry). covers site day e ≡ false) es 0 (length es))
+    (λ i. (i < length es) × HoldsAt (λ (e : Entry). covers site day e ≡ true) es i × AllWithin (λ (e : Entry). covers site day e ≡ false) es 0 i)
+    → MatchOption r (length es ≤ place_of site day es) (λ p. (p < length es) × (place_of site day es ≡ p))
+unfolding place_of
+position_said site day es None nowhere = omega (arith, none_is_end (λ i. covers site day (entry_of es i)) (length es) (λ j h. nowhere j blank (omega arith) h))
+position_said site day es (Some p) at = (at.0, first_is (λ i. covers site day (entry_of es i)) (length es) p at.0 (at.1 blank) (λ j h. at.2 j blank (omega arith) h))

@@ -10,7 +10,6 @@ use Prim.Native.Nat.{ℕ, ◌≤◌, ◌<◌}
 use native.Mathlib.Omega.{arith}
 use borrow.Author.Tests.{lt-ltb, le-ltb}
 use lib.Dec.{eqb}
-use lib.IntN.{ℤ}
 use lib.ListN.{length, get_or}
 use Rattle.lists.specs.Selections.{any}
 use Rattle.refusals.specs.declared.Outcome.{Outcome}
@@ -21,6 +20,8 @@ use Rattle.refusals.proofs.Joined.{stage_stops, stage_goes}
 use Rattle.bill_files.specs.Accepted.{BillFile}
 use Rattle.entries.specs.declared.Entry.{Entry}
 use Rattle.booking.specs.Booking.{file_entry, has_file, at_bill, cancel_refusals, storage_refusals, ledger_refusals}
+use Rattle.file_bills.specs.declared.SourceBill.{SourceBill}
+use Rattle.file_bills.specs.InsideBills.{source_at}
 use Rattle.ledger_tests.specs.InsideBills.{Bills}
 
 -- the sender and the Record ID that test 8 looks for are the file's
@@ -29,13 +30,13 @@ pub has_file_is : (l : List Entry) (file : BillFile) (header : Entry) (r : Bool)
 unfolding has_file
 has_file_is l file header r own e = e ∙ ap (λ (h : Entry). any (λ x. eqb x.kind 1 && eqb x.sender h.sender && eqb x.id h.id) l) own
 
-module _ (number : ℕ) (file : BillFile) {words : List ℕ} {amounts : List ℤ} {references at : List ℕ} {n : ℕ} (B : Bills file words amounts references at n) {rest : List Refusal} {r : Outcome} where
-  pub bill_fails : {place first : ℕ} → place ≡ first → place < n → r ≡ outcome number (get_or at place 0) → Answers (at_bill number file first ∷ rest) r
+module _ (number : ℕ) (file : BillFile) {sources : List SourceBill} (B : Bills file sources) {rest : List Refusal} {r : Outcome} where
+  pub bill_fails : {place first : ℕ} → place ≡ first → place < length sources → r ≡ outcome number (source_at sources place).line → Answers (at_bill number file first ∷ rest) r
   bill_fails {place} {first} found h e =
       line_fails number (get_or file.lines first 0) (lt-ltb first (length file.bills) (omega (arith, found, B.source.count)))
       (e ∙ ap (outcome number) (B.stands place h ∙ ap (λ (m : ℕ). get_or file.lines m 0) found))
 
-  pub bill_passes : {place first : ℕ} → place ≡ first → n ≤ place → Answers rest r → Answers (at_bill number file first ∷ rest) r
+  pub bill_passes : {place first : ℕ} → place ≡ first → length sources ≤ place → Answers rest r → Answers (at_bill number file first ∷ rest) r
   bill_passes {place} {first} found h later =
       line_passes number (get_or file.lines first 0) (le-ltb first (length file.bills) (omega (arith, found, B.source.count))) later
 

@@ -1,25 +1,35 @@
--- A loop that looks for an element for which p holds, and has passed i elements.
---     any_here, any_more, any_end    it holds of the element at i; it doesn't; no element is left
+-- Test 102 of the records: `any_source`, a test of their entries over what is read of a file, and over its TH and OC.
 -- Assumes nothing.
-use mathlib.Core.Path.{◌≡◌, sym, ap, ◌∙◌}
-use mathlib.Core.Bool.{Bool, true, false, ◌||◌}
-use mathlib.Core.List.{List}
-use Prim.Native.Nat.{ℕ, ◌+◌, ◌≤◌, ◌<◌}
-use native.Mathlib.Numerals.{add-one}
-use lib.ListN.{length, get_or, drop, drop_of_length-le}
-use lib.Seq.{drop-cons}
+use mathlib.Core.Path.{◌≡◌, refl, sym, ap, ◌∙◌}
+use mathlib.Core.Bool.{Bool, ◌||◌}
+use mathlib.Core.List.{List, [], ◌∷◌, map}
+use Prim.Native.Nat.{◌<◌}
+use native.Mathlib.Omega.{arith}
+use lib.ListN.{length, length-map}
+use lib.Seq.{ext_get_or}
+use Rattle.std.specs.List.{list_any}
 use Rattle.lists.specs.Selections.{any}
+use Rattle.lists.proofs.Selections.{any_map}
+use Rattle.std.proofs.lemmas.List.{get_or-map}
+use Rattle.bill_files.specs.Accepted.{Bill}
+use Rattle.entries.specs.declared.Entry.{Entry}
+use Rattle.entries.specs.Entries.{blank}
+use Rattle.booking.specs.Acceptable.{no_bill}
+use Rattle.file_bills.specs.declared.SourceBill.{SourceBill}
+use Rattle.file_bills.specs.InsideBills.{source_entry, blank_source, Source}
 
-module _ {A : Type 0} (p : A → Bool) (l : List A) (i : ℕ) (before : any p l ≡ any p (drop i l)) where
-  module _ (d : A) (h : i < length l) where
-    step : any p l ≡ (p (get_or l i d) || any p (drop (i + 1) l))
-    step = before ∙ ap (any p) (drop-cons l i d h) ∙ ap (λ (m : ℕ). p (get_or l i d) || any p (drop m l)) (sym (add-one i))
+same_any : {A : Type 0} (p : A → Bool) (xs : List A) → list_any p xs ≡ any p xs
+same_any p [] = refl
+same_any p (x ∷ xs) = ap (λ (t : Bool). p x || t) (same_any p xs)
 
-    pub any_here : p (get_or l i d) ≡ true → any p l ≡ true
-    any_here e = step ∙ ap (λ (t : Bool). t || any p (drop (i + 1) l)) e
+module _ {bills : List Bill} {sources : List SourceBill} (S : Source bills sources) where
+  same_entries : map (λ (s : SourceBill). s.entry) sources ≡ map source_entry bills
+  same_entries =
+      ext_get_or blank (map (λ (s : SourceBill). s.entry) sources) (map source_entry bills) (simp length-map S.count)
+      (λ k h.
+      let low : k < length bills = omega (arith, h, length-map sources (λ (s : SourceBill). s.entry), S.count) in
+      get_or-map (λ (s : SourceBill). s.entry) sources k blank_source blank (omega (arith, S.count)) ∙ S.each k low ∙ sym (get_or-map source_entry bills k no_bill blank low))
 
-    pub any_more : p (get_or l i d) ≡ false → any p l ≡ any p (drop (i + 1) l)
-    any_more e = step ∙ ap (λ (t : Bool). t || any p (drop (i + 1) l)) e
-
-  pub any_end : length l ≤ i → any p l ≡ false
-  any_end h = before ∙ ap (any p) (drop_of_length-le l {i = i} h)
+  pub any_source : (p : Entry → Bool) → list_any (λ (s : SourceBill). p s.entry) sources ≡ any (λ (b : Bill). p (source_entry b)) bills
+  any_source p =
+      same_any (λ (s : SourceBill). p s.entry) sources ∙ sym (any_map p (λ (s : SourceBill). s.entry) sources) ∙ ap (any p) same_entries ∙ any_map p source_entry bills

@@ -1,9 +1,8 @@
 -- The answer of Book as a host has it, and what a call of Book on a lent run meets.
 -- Assumes nothing.
-use Rattle.std.specs.Prelude.{◌≡◌, cond, List, ◌+◌, eqb}
+use Rattle.std.specs.Prelude.{◌≡◌, cond, List, ◌+◌, eqb, Ok, Err}
 use Rattle.entries.specs.declared.Entry.{Entry}
-use Rattle.booking.specs.declared.Answer.{Answer}
-use Rattle.booking.specs.declared.Answer.TheVariants.{Refused, Accepted}
+use Rattle.booking.specs.Answers.{Answer}
 use Rattle.booking.specs.Booking.{Input, Result, book_result, Booked}
 use Rattle.lent_ledger.specs.declared.BookReply.{BookReply}
 
@@ -13,7 +12,7 @@ book_reply r = record { number = r.number; line = r.line; added = r.added; held 
 
 -- a host reads it so: number 0 is an acceptance
 abbrev pub answer_of : BookReply → Answer
-answer_of r = cond (eqb r.number 0) (Accepted r.added r.held) (Refused r.number r.line)
+answer_of r = cond (eqb r.number 0) (Ok (record { added = r.added; held = r.held })) (Err (record { number = r.number; line = r.line }))
 
 -- the reply by equation; and, as a host reads it, the record of Book, with the used count moved by the entries added
 pub record HostBooked (i : Input) (reply : BookReply) (run' : List Entry) : Type 0 where

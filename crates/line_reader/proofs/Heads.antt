@@ -144,6 +144,7 @@ module _ {file : List ℕ} {a e : ℕ} {numbers : List ℕ} (lent : LineLent fil
                   filled = f ∙ head_filled_lem r.record_type (part file a e) known named
                       (read1.ends ∙ sym (ap length (field_is (none 0) low high) ∙ field_length (part file a e)))
                       (read2.ends ∙ sym (ap length (field_is (one 0 (omega arith)) low2 high) ∙ field_length (part file (a + id.len + 1) e)));
+                  known = known;
                 }
 
 -- the places of the first three fields

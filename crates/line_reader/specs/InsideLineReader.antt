@@ -1,7 +1,7 @@
 -- One pass over a file's lines: what is read of a line's fields, each into its place and one number; which line is the first that can't be read; and what is
 -- answered where all can.
 -- Assumes nothing.
-use Rattle.std.specs.Prelude.{ℕ, ◌+◌, ◌-◌, ◌≤◌, ◌<◌, ◌≡◌, List, [], Bool, true, false, cond, not, ◌&&◌, ◌||◌, length, drop, get_or, eqb, leb}
+use Rattle.std.specs.Prelude.{ℕ, ◌+◌, ◌-◌, ◌≤◌, ◌<◌, ◌≡◌, List, [], Bool, true, false, cond, not, ◌&&◌, ◌||◌, length, drop, get_or, eqb, leb, Option, Some, None}
 use Rattle.lists.specs.Below.{first_below, some_below}
 use Rattle.lists.specs.InsideFirstSoFar.{first_after}
 use Rattle.lists.specs.Written.{written}
@@ -42,11 +42,10 @@ pub record ReadTo (file line : List ℕ) (type k a e : ℕ) (numbers bs es : Lis
   pub stands : (j : ℕ) → j < k → FieldFits type j (field_after line j) (get_or numbers (j + 1) 0)
   pub placed : (j : ℕ) → j < k → At file (get_or bs j 0) (get_or es j 0) (field_after line j)
 
--- r is read of the field of a type that begins at a, of a line that ends at e: there is none past its end
-pub record NextTold (t : FieldType) (file : List ℕ) (a e : ℕ) (r : Reading) : Type 0 where
-  pub inside : r.fits ≡ true → a ≤ e
-  pub read : r.fits ≡ true → FieldRead t (part file a e) r
-  pub misses : r.fits ≡ false → a ≤ e → fits_type t (leading_field (part file a e)) ≡ false
+-- what is read of the field of a type that begins at a, of a line that ends at e; none where there is none, past its end, or it does not fit
+abbrev pub NextTold : FieldType → List ℕ → ℕ → ℕ → Option Reading → Type 0
+NextTold t file a e (Some r) = (a ≤ e) × FieldRead t (part file a e) r
+NextTold t file a e None = a ≤ e → fits_type t (leading_field (part file a e)) ≡ false
 
 -- `unfilled`, of a record's type and its line
 unfoldable pub unfilled_at : ℕ → List ℕ → ℕ → Bool
@@ -82,6 +81,12 @@ pub record HeadRead (file line : List ℕ) (a e : ℕ) (r : Head) (numbers : Lis
   pub second : At file (r.id_end + 1) r.parent_end (field_after line 1)
   pub third : At file (r.parent_end + 1) r.type_end (field_after line 2)
   pub filled : FilledTo r.record_type line 3 r.filled
+  pub known : r.record_type < 9
+
+-- what is read of them; none where the line fails test 2 or test 3
+abbrev pub HeadTold : List ℕ → List ℕ → ℕ → ℕ → List ℕ → Option Head → Type 0
+HeadTold file line a e numbers (Some head) = HeadRead file line a e head numbers
+HeadTold file line a e numbers None = unread line ≡ true
 
 -- ---- the file
 -- what is kept of the lines, `read` before and r after line `read.stopped` of n, a record of a type, by the numbers of its fields

@@ -5,20 +5,19 @@
 
 ghost use Rattle.std.specs.Prelude.{◌≡◌, true, false, cond, ℕ, ◌≤◌, ◌<◌, eqb, length, set, replicate};
 ghost use Rattle.lists.specs.Written.{written};
-ghost use Rattle.calendar.specs.InsideFirstDays.{first_days};
 ghost use Rattle.records.specs.Text.{lines_of};
-ghost use Rattle.records.specs.InsidePlacedLines.{part, Placed};
+ghost use Rattle.records.specs.InsidePlacedLines.{part};
 ghost use Rattle.columns.specs.InsideColumns.{Room};
 ghost use Rattle.tables.specs.Types.{TH};
 ghost use Rattle.tables.specs.InsideCodes.{type_of_code};
 ghost use Rattle.readings.specs.InsideLeadingBytes.{packed};
 ghost use Rattle.readings.specs.InsideReadings.{is_narrow};
 ghost use Rattle.format.specs.Format.{line_at, unformatted, first_unformatted};
-ghost use Rattle.line_reader.specs.InsideLineReader.{unread, head_filled, LineLent, HeadRead, LineKept, NextTold, LinesTold};
+ghost use Rattle.line_reader.specs.InsideLineReader.{head_filled, LineLent, HeadTold, LineKept, NextTold, LinesTold};
 
 use conditional_fields::is_unpopulated;
 use readings::Reading;
-use records::Record;
+use records::{FoundLines, Record};
 
 // What is answered of a file's lines: the line at which the reader stopped, or their number; then, where it read them all, the first lines that fail
 // tests 5, 6 and 7, the numbers that fields 4, 5 and 6 of the first line and field 4 of the last say, and whether the last TH has Site Status Code E.
@@ -45,18 +44,6 @@ struct Head {
     filled: bool,
 }
 
-fn no_head() -> Head
-    ensures { result.record_type ≡ 9 }
-{
-    Head {
-        record_type: tables::NO_TYPE,
-        id_end: 0,
-        parent_end: 0,
-        type_end: 0,
-        filled: false,
-    }
-}
-
 // Whether the Record ID is filled, and the Parent ID is, but for FH, whose is empty. A type that is known fills the third field.
 fn head_filled(record_type: u64, id_len: usize, parent_len: usize) -> bool
     ensures { result ≡ head_filled record_type id_len parent_len }
@@ -70,54 +57,44 @@ fn head_filled(record_type: u64, id_len: usize, parent_len: usize) -> bool
     parent_len != 0
 }
 
-// The first three fields of the line from a to e: its IDs and its type; 9 where a byte of the line is unprintable, a field does not fit, there are fewer,
+// The first three fields of the line from a to e: its IDs and its type; none where a byte of the line is unprintable, a field does not fit, there are fewer,
 // or the type is unknown.
-fn read_head(file: &[u8], a: usize, e: usize, numbers: &mut [u64; 24]) -> Head
+fn read_head(file: &[u8], a: usize, e: usize, numbers: &mut [u64; 24]) -> Option<Head>
     requires { LineLent file.now a e numbers.old }
-    ensures head_read { result.record_type < 9 → HeadRead file.now (part file.now a e) a e result numbers.new }
-    ensures e_value { 9 ≤ result.record_type → unread (part file.now a e) ≡ true }
+    ensures { HeadTold file.now (part file.now a e) a e numbers.new result }
 {
     if format::has_unprintable(&file[a..e]) {
-        return no_head();
+        return None;
     }
-    let id = readings::read_id(&file[a..e]);
-    let id_fits = id.fits;
-    if !id_fits {
-        return no_head();
-    }
+    let id = readings::read_id(&file[a..e])?;
     let id_end = a + id.len;
     if e <= id_end {
-        return no_head();
+        return None;
     }
     let b = id_end + 1;
-    let parent = readings::read_id(&file[b..e]);
-    let parent_fits = parent.fits;
-    if !parent_fits {
-        return no_head();
-    }
+    let parent = readings::read_id(&file[b..e])?;
     let parent_end = b + parent.len;
     if e <= parent_end {
-        return no_head();
+        return None;
     }
     let d = parent_end + 1;
-    let name = readings::read_char(&file[d..e], 2);
-    let name_fits = name.fits;
-    if !name_fits {
-        return no_head();
-    }
+    let name = readings::read_char(&file[d..e], 2)?;
     let type_end = d + name.len;
     let record_type = tables::type_named(&file[d..type_end]);
+    if tables::NO_TYPE <= record_type {
+        return None;
+    }
     let filled = head_filled(record_type, id.len, parent.len);
     numbers[1] = id.number;
     numbers[2] = parent.number;
     numbers[3] = name.number;
-    Head {
+    Some(Head {
         record_type,
         id_end,
         parent_end,
         type_end,
         filled,
-    }
+    })
 }
 
 // A record whose fields are not read yet.
@@ -213,46 +190,41 @@ fn with_line(
 }
 
 // The field that begins at a, of a line that ends at e and has no field past its end.
-fn read_next(days: &[u64], code: usize, file: &[u8], a: usize, e: usize) -> Reading
-    requires { (days.now ≡ first_days) × (is_narrow (type_of_code code) ≡ true) × (e ≤ length file.now) }
+fn read_next(code: usize, file: &[u8], a: usize, e: usize) -> Option<Reading>
+    requires { (is_narrow (type_of_code code) ≡ true) × (e ≤ length file.now) }
     ensures { NextTold (type_of_code code) file.now a e result }
 {
     if e < a {
-        return readings::misses();
+        return None;
     }
-    readings::read_field(days, code, &file[a..e])
+    readings::read_field(code, &file[a..e])
 }
 
-// Reads each of n lines, into the columns, up to the first that fails test 2 or 3; read.stopped is the line that is read next.
+// Reads each of a file's lines, into the columns, up to the first that fails test 2 or 3; read.stopped is the line that is read next.
 pub fn read_lines(
-    file: &[u8],
-    starts: &[usize],
-    ends: &[usize],
-    n: usize,
+    lines: &FoundLines,
     words: &mut [u64],
     charges: &mut [u64],
     usages: &mut [u64],
 ) -> LinesRead
-    requires placed { Placed file.now n starts.now ends.now (lines_of file.now) × (1 ≤ n) }
-    requires room { Room n words.old charges.old usages.old × (length charges.old ≤ 4096) }
-    ensures { LinesTold (lines_of file.now) words.new charges.new usages.new result }
+    requires some { 1 ≤ lines.now.n }
+    requires room { Room lines.now.n words.old charges.old usages.old × (length charges.old ≤ 4096) }
+    ensures { LinesTold (lines_of lines.now.bytes.now) words.new charges.new usages.new result }
 {
-    let days = calendar::first_days();
+    let file = lines.bytes;
+    let n = lines.n;
     let codes = tables::codes();
     let marks = tables::marks();
-    let fields = columns::column_fields();
     let mut numbers = [0u64; 24];
     let mut record = no_record();
     let mut read = none_read(n);
-    'records: while read.stopped < n {
-        let i = read.stopped;
-        let start = starts[i];
-        let e = ends[i];
-        let head = read_head(file, start, e, &mut numbers);
-        let record_type = head.record_type;
-        if tables::NO_TYPE <= record_type {
+    'records: for i in 0..n {
+        let start = lines.starts[i];
+        let e = lines.ends[i];
+        let Some(head) = read_head(file, start, e, &mut numbers) else {
             break 'records;
-        }
+        };
+        let record_type = head.record_type;
         let id_end = head.id_end;
         let parent_end = head.parent_end;
         place_three(&mut record.starts, start, id_end + 1, parent_end + 1);
@@ -261,14 +233,11 @@ pub fn read_lines(
         let row = record_type as usize * 19;
         let mut filled = head.filled;
         let mut a = head.type_end + 1;
-        let mut k: usize = 3;
-        while k < count {
-            let field = read_next(&days, codes[row + k], file, a, e);
-            let fits = field.fits;
-            let len = field.len;
-            if !fits {
+        for k in 3..count {
+            let Some(field) = read_next(codes[row + k], file, a, e) else {
                 break 'records;
-            }
+            };
+            let len = field.len;
             if len == 0 {
                 filled = filled & !marks[row + k];
             }
@@ -276,7 +245,6 @@ pub fn read_lines(
             record.ends[k] = a + len;
             numbers[k + 1] = field.number;
             a = a + len + 1;
-            k += 1;
         }
         if a <= e {
             break 'records;
@@ -290,30 +258,22 @@ pub fn read_lines(
             &record.ends,
             read.energized,
         );
-        codes_and_rows::store_line(&fields, &numbers, record_type, words, charges, usages, i);
+        codes_and_rows::store_line(&numbers, record_type, words, charges, usages, i);
         read = with_line(read, n, record_type, filled, lacks, &numbers);
     }
     read
 }
 
 // The first line that fails test 2, or n, where none before `from` does.
-pub fn first_unformatted(
-    file: &[u8],
-    starts: &[usize],
-    ends: &[usize],
-    n: usize,
-    from: usize,
-) -> usize
-    requires placed { Placed file.now n starts.now ends.now (lines_of file.now) × (from ≤ n) }
-    requires by_index { (i : ℕ) → i < from → unformatted (line_at (lines_of file.now) i) ≡ false }
-    ensures { result ≡ first_unformatted (lines_of file.now) }
+pub fn first_unformatted(lines: &FoundLines, from: usize) -> usize
+    requires inside { from ≤ lines.now.n }
+    requires by_index { (i : ℕ) → i < from → unformatted (line_at (lines_of lines.now.bytes.now) i) ≡ false }
+    ensures { result ≡ first_unformatted (lines_of lines.now.bytes.now) }
 {
-    let mut i = from;
-    while i < n {
-        if format::is_unformatted(file, starts[i], ends[i]) {
+    for i in from..lines.n {
+        if format::is_unformatted(lines.bytes, lines.starts[i], lines.ends[i]) {
             return i;
         }
-        i += 1;
     }
-    i
+    lines.n
 }

@@ -11,14 +11,12 @@ ghost use Rattle.lists.specs.InsideFirstSoFar.{first_after};
 pub fn find(s: &[u8], b: u8) -> usize
     ensures { result ≡ first_where (is_byte b) s.now }
 {
-    let mut i: usize = 0;
-    while i < s.len() {
-        if s[i] == b {
+    for (i, x) in s.iter().enumerate() {
+        if *x == b {
             return i;
         }
-        i += 1;
     }
-    i
+    s.len()
 }
 
 // Whether a byte of a block is b. There is no early exit, so that many bytes are compared at once.
@@ -26,12 +24,10 @@ fn block_has(block: &[u8], b: u8) -> bool
     ensures { result ≡ false → (k : ℕ) → k < length block.now → is_byte b (get_or block.now k 0) ≡ false }
 {
     let mut found = false;
-    let mut i: usize = 0;
-    while i < block.len() {
-        if block[i] == b {
+    for x in block {
+        if *x == b {
             found = true;
         }
-        i += 1;
     }
     found
 }
@@ -41,14 +37,14 @@ fn pass_over(s: &[u8], b: u8, width: usize) -> usize
     requires { 0 < width }
     ensures { (result ≤ length s.now) × (first_where (is_byte b) s.now ≡ result + first_where (is_byte b) (drop result s.now)) }
 {
-    let mut i: usize = 0;
-    while width <= s.len() - i {
-        if block_has(&s[i..i + width], b) {
-            return i;
+    let blocks = s.len() / width;
+    for k in 0..blocks {
+        let start = k * width;
+        if block_has(&s[start..start + width], b) {
+            return start;
         }
-        i += width;
     }
-    i
+    blocks * width
 }
 
 // What find says, for a byte that is likely to stand far from the start: 32 bytes are passed over at a time, and near to it 8.
@@ -73,25 +69,9 @@ pub fn first_so_far(holds: bool, first: usize, n: usize, i: usize) -> usize
     n
 }
 
-pub fn wide(x: u8) -> u64
-    ensures { result ≡ x }
-{
-    x as u64
-}
-
-// Whether two runs of bytes are the same.
+// Whether two runs of bytes are the same: the library's `==`, said in the definitions' word.
 pub fn same_bytes(s: &[u8], t: &[u8]) -> bool
     ensures { result ≡ same_bytes s.now t.now }
 {
-    if s.len() != t.len() {
-        return false;
-    }
-    let mut i: usize = 0;
-    while i < s.len() {
-        if s[i] != t[i] {
-            return false;
-        }
-        i += 1;
-    }
-    true
+    s == t
 }

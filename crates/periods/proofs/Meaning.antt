@@ -16,7 +16,8 @@ use Rattle.lists.specs.Below.{first_below, some_below}
 use Rattle.lists.proofs.Below.{none_below, none_is_end, some_holds, some_is}
 use Rattle.tables.specs.Types.{SH, TH}
 use Rattle.tables.specs.Groups.{at}
-use Rattle.periods.specs.InsideChosen.{Chooses as ChosenIn}
+use Rattle.periods.specs.InsideOriginals.{HasDay}
+use Rattle.periods.specs.InsideChosen.{Chooses}
 use Rattle.calendar.specs.Periods.{shares_day}
 use Rattle.periods.specs.Periods.{is_reversed, first_reversed, PeriodColumns, is_original, chooses, days_at, overlaps_at, first_overlapping}
 use Rattle.periods.proofs.Conditions.{no_header, header_of_another_site, header_without_start, header_without_end, starts_before_header, ends_after_header, chooses_by_end, different_sites, first_no_original, second_no_original, no_shared_day, overlaps_by_header}
@@ -77,14 +78,6 @@ pub record Original (c : PeriodColumns) (i : ℕ) : Type 0 where
   pub period_header_lem : at c.types i ≡ TH
   pub no_cancel : at c.cancels i ≡ 0
 
--- the record at h is an SH of the site of the period at i, with both dates, and the period lies within them
-abbrev pub Chooses : PeriodColumns → ℕ → ℕ → Type 0
-Chooses c = ChosenIn c.types c.sites c.starts c.ends
-
--- the period at i has the day d, both ends in
-abbrev pub HasDay : PeriodColumns → ℕ → ℕ → Type 0
-HasDay c i d = (at c.starts i ≤ d) × (d ≤ at c.ends i)
-
 pub record Overlap (c : PeriodColumns) (i j : ℕ) : Type 0 where
   pub first : Original c i
   pub second : Original c j
@@ -93,7 +86,7 @@ pub record Overlap (c : PeriodColumns) (i j : ℕ) : Type 0 where
   pub header : (h : ℕ) × (h < length c.types) × Chooses c h i × Chooses c h j
 
 module _ (c : PeriodColumns) where
-  original_is : (i : ℕ) → (is_original c i ≡ true) ↔ Original c i
+  pub original_is : (i : ℕ) → (is_original c i ≡ true) ↔ Original c i
   unfolding is_original
   original_is i = (
     λ e. let q = (and-eq-true_iff (eqb (at c.types i) TH) (eqb (at c.cancels i) 0)).0 e in record { period_header_lem = eqb-true _ _ q.0; no_cancel = eqb-true _ _ q.1 },

@@ -1,23 +1,24 @@
--- The original periods of a file, in columns, and that no two of a site share a day. A day stands as itself and one; 0 says that the field is empty.
+-- The original periods as spans of numbers, and that no two of a site share a day. A day stands as itself and one; 0 says that the field is empty.
 -- Assumes nothing.
-use Rattle.std.specs.Prelude.{◌≡◌, List, Bool, true, ◌&&◌, ℕ, ◌≤◌, ◌<◌, eqb, get_or}
-use Rattle.apart.specs.InsideGathered.{day_number}
-use Rattle.tables.specs.Types.{TH}
-
--- the record at i is an original period: a Tariff Bill Period Header with the Cancel Indicator N
-unfoldable pub original_at : List ℕ → List ℕ → ℕ → Bool
-original_at types cancels i = eqb (get_or types i 0) TH && eqb (get_or cancels i 0) 0
+use Rattle.std.specs.Prelude.{◌≡◌, List, true, ℕ, ◌≤◌, ◌<◌}
+use Rattle.apart.specs.InsideGathered.{day_number, Gathering}
+use Rattle.tables.specs.Groups.{at}
+use Rattle.periods.specs.Periods.{PeriodColumns, is_original}
 
 -- a day of a site as one number
 abbrev pub day_at : List ℕ → List ℕ → ℕ → ℕ
-day_at sites days i = day_number (get_or sites i 0) (get_or days i 0)
+day_at sites days i = day_number (at sites i) (at days i)
+
+-- the first and the last days of the original periods among the first n records, as numbers, stand in two lists, `count` in each
+abbrev pub SpansGathered : PeriodColumns → List ℕ → List ℕ → ℕ → ℕ → Type 0
+SpansGathered c = Gathering (is_original c) (day_at c.sites c.starts) (day_at c.sites c.ends)
 
 -- the period at i has the day d, both ends in
-abbrev pub HasDay : List ℕ → List ℕ → ℕ → ℕ → Type 0
-HasDay starts ends i d = (get_or starts i 0 ≤ d) × (d ≤ get_or ends i 0)
+abbrev pub HasDay : PeriodColumns → ℕ → ℕ → Type 0
+HasDay c i d = (at c.starts i ≤ d) × (d ≤ at c.ends i)
 
 -- no day of a site is in two of the original periods among the first n records
-unfoldable pub NoneShared : List ℕ → List ℕ → List ℕ → List ℕ → List ℕ → ℕ → Type 0
-NoneShared types sites starts ends cancels n =
-    (i j d : ℕ) → i < j → j < n → original_at types cancels i ≡ true → original_at types cancels j ≡ true → get_or sites i 0 ≡ get_or sites j 0
-    → HasDay starts ends i d → HasDay starts ends j d → ⊥
+unfoldable pub NoneShared : PeriodColumns → ℕ → Type 0
+NoneShared c n =
+    (i j d : ℕ) → i < j → j < n → is_original c i ≡ true → is_original c j ≡ true → at c.sites i ≡ at c.sites j
+    → HasDay c i d → HasDay c j d → ⊥

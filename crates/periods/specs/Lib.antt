@@ -1,3 +1,4 @@
+pub mod InsideColumns
 pub mod InsideChosen
 pub mod InsideOriginals
 pub mod InsideSizes

@@ -5,19 +5,18 @@
 --     fixed_read                           so it tells an ID of fixed length
 --     date_not, -empty, -read, -missed     what an ID of eight digits tells of a date: none, an empty field, the day, no day
 -- Assumes nothing.
+use Rattle.std.specs.Prelude.{is_some}
 use Rattle.std.proofs.Common.{◌≡◌, ℕ, ◌+◌, ◌-◌, ◌^◌, ◌<◌, ◌≤◌, Bool, true, false, cond, ◌||◌, eqb, List, length, take, sym, refl, ap, ◌∙◌, ⊎_elim, arith, length-take-le, eq-eqb, ne_eqb, eqb-true}
 use borrow.Author.Tests.{eqb-false}
-use Rattle.digits.specs.declared.Number.{Number}
-use Rattle.digits.specs.declared.Number.TheVariants.{Value, Other}
+use Rattle.std.specs.Prelude.{Option, Some, None}
 use Rattle.digits.specs.Digits.{number_of, digits_of, fixed_digits_of}
 use Rattle.digits.proofs.Laws.{ten_room, digits_are}
-use Rattle.calendar.specs.declared.Day.TheVariants.{At, NotADate}
 use Rattle.calendar.specs.Calendar.{date_day, number_day, day_of}
 use Rattle.fields.specs.declared.FieldType.{FieldType}
 use Rattle.fields.specs.declared.FieldType.TheVariants.{RecordId, Digits, Date}
-use Rattle.fields.specs.Fields.{is_read, is_day, fits_filled, fits_type}
+use Rattle.fields.specs.Fields.{fits_filled, fits_type}
 use Rattle.fields.proofs.Fits.{fits_empty, fits_filled_lem}
-use Rattle.columns.specs.Columns.{number_in_column, day_in_column}
+use Rattle.columns.specs.Columns.{number_in_column}
 use Rattle.readings.specs.declared.Run.{Run}
 use Rattle.readings.specs.declared.Reading.{Reading}
 use Rattle.readings.specs.InsideLeadingBytes.{field_end, leading_field, Ends, DigitsRead}
@@ -41,10 +40,10 @@ module _ (s : List ℕ) (t : Run) (run : DigitsRead s t) where
   unfolding Says
   id_read r end some l n =
       let size : length (take t.len s) ≡ t.len = length-take-le t.len s run.inside in
-      let are : digits_of (take t.len s) ≡ Value (number_of (take t.len s))
+      let are : digits_of (take t.len s) ≡ Some (number_of (take t.len s))
       = digits_are (take t.len s) (omega (arith, size, some)) (omega (arith, size, run.few)) run.digits in
       field_read RecordId s r t.len (t.value + 1) (ends_there s t.len end (digits_before s t.len run.inside run.digits))
-      (fits_filled_lem RecordId (take t.len s) (ap is_read are)) (ap (λ (v : ℕ). v + 1) run.value ∙ sym (ap number_in_column are)) l n
+      (fits_filled_lem RecordId (take t.len s) (ap is_some are)) (ap (λ (v : ℕ). v + 1) run.value ∙ sym (ap number_in_column are)) l n
 
 -- ---- what an ID tells
 module _ (s : List ℕ) (id : Reading) (read : FieldRead RecordId s id) where
@@ -57,17 +56,17 @@ module _ (s : List ℕ) (id : Reading) (read : FieldRead RecordId s id) where
   id_empty t e = field_read t s id 0 0 (sym e ∙ read.ends) (fits_empty t) (empty_says t) e (none e)
 
   module _ (some : 1 ≤ id.len) where
-    is_read_lem : is_read (digits_of (leading_field s)) ≡ true
+    is_read_lem : is_some (digits_of (leading_field s)) ≡ true
     is_read_lem = filled_fits RecordId (leading_field s) (omega (arith, field_length s, read.ends, some)) read.fits
 
     -- its number
-    id_number : (n : ℕ) × (digits_of (leading_field s) ≡ Value n) × (id.number ≡ n + 1)
+    id_number : (n : ℕ) × (digits_of (leading_field s) ≡ Some n) × (id.number ≡ n + 1)
     unfolding Says
     id_number = go (digits_of (leading_field s)) refl is_read_lem
       where
-        go : (x : Number) → digits_of (leading_field s) ≡ x → is_read x ≡ true → (n : ℕ) × (digits_of (leading_field s) ≡ Value n) × (id.number ≡ n + 1)
-        go (Value n) e q = (n, e, read.says ∙ ap number_in_column e)
-        go Other e q = let z : ◌≡◌ {A = ℕ} 0 1 = cc in absurd (omega arith)
+        go : (x : Option ℕ) → digits_of (leading_field s) ≡ x → is_some x ≡ true → (n : ℕ) × (digits_of (leading_field s) ≡ Some n) × (id.number ≡ n + 1)
+        go (Some n) e q = (n, e, read.says ∙ ap number_in_column e)
+        go None e q = let z : ◌≡◌ {A = ℕ} 0 1 = cc in absurd (omega arith)
 
     pub fixed_read : (width : ℕ) → id.len ≡ width → FieldRead (Digits width) s id
     unfolding Says fixed_digits_of
@@ -93,10 +92,10 @@ module _ (s : List ℕ) where
   unfolding fits_type fixed_digits_of day_of
   date_not = go (eqb (length (leading_field s)) 0) (eqb (length (leading_field s)) 8) (digits_of (leading_field s))
     where
-      go : (a b : Bool) (x : Number) → a || is_read (cond b x Other) ≡ false → a || is_day (cond b (number_day x) NotADate) ≡ false
+      go : (a b : Bool) (x : Option ℕ) → a || is_some (cond b x None) ≡ false → a || is_some (cond b (number_day x) None) ≡ false
       go true b x e = e
-      go false true (Value n) e = let z : ◌≡◌ {A = ℕ} 0 1 = cc in absurd (omega arith)
-      go false true Other e = e
+      go false true (Some n) e = let z : ◌≡◌ {A = ℕ} 0 1 = cc in absurd (omega arith)
+      go false true None e = e
       go false false x e = e
 
   module _ (id : Reading) (read : FieldRead (Digits 8) s id) where
@@ -121,11 +120,11 @@ module _ (s : List ℕ) where
           let less : id.number - 1 ≡ id_says.0 = omega (arith, id_says.2) in
           rw (eq-eqb (length (leading_field s)) 8 eight) (ap number_day id_says.1 ∙ sym (ap date_day less))
 
-      pub date_read : (r : Reading) (d : ℕ) → date_day (id.number - 1) ≡ At d → r.len ≡ 8 → r.number ≡ d + 1 → FieldRead Date s r
+      pub date_read : (r : Reading) (d : ℕ) → date_day (id.number - 1) ≡ Some d → r.len ≡ 8 → r.number ≡ d + 1 → FieldRead Date s r
       unfolding Says
       date_read r d e l n =
-          field_read Date s r (field_end s) (d + 1) refl (fits_filled_lem Date (leading_field s) (ap is_day (day ∙ e))) (sym (ap day_in_column (day ∙ e)))
+          field_read Date s r (field_end s) (d + 1) refl (fits_filled_lem Date (leading_field s) (ap is_some (day ∙ e))) (sym (ap number_in_column (day ∙ e)))
           (l ∙ sym eight ∙ field_length s) n
 
-      pub date_missed : date_day (id.number - 1) ≡ NotADate → fits_type Date (leading_field s) ≡ false
-      date_missed e = filled_not Date (leading_field s) some (ap is_day (day ∙ e))
+      pub date_missed : date_day (id.number - 1) ≡ None → fits_type Date (leading_field s) ≡ false
+      date_missed e = filled_not Date (leading_field s) some (ap is_some (day ∙ e))

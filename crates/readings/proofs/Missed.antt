@@ -4,16 +4,17 @@
 --     fixed_id, fixed_length             IDs of fixed length are IDs, of just so many digits
 --     text_ends, char_length, varchar_length    texts
 -- Assumes nothing.
+use Rattle.std.specs.Prelude.{is_some}
 use Rattle.std.proofs.Common.{◌≡◌, ℕ, ◌<◌, ◌≤◌, Bool, true, false, cond, ◌||◌, eqb, leb, ◌⊎◌, List, length, refl, subst, inl, inr, ⊎_elim, arith, ne_eqb, eqb-true, leb-false, leb-true}
 use Rattle.lists.specs.First.{is_byte}
 use Rattle.lists.proofs.First.{first_le}
 use Rattle.fields.proofs.Read.{read_value}
-use Rattle.digits.specs.declared.Number.TheVariants.{Other}
+use Rattle.std.specs.Prelude.{None}
 use Rattle.digits.specs.Digits.{digits_of, fixed_digits_of}
 use Rattle.digits.proofs.Laws.{digits_say}
 use Rattle.fields.specs.declared.FieldType.{FieldType}
 use Rattle.fields.specs.declared.FieldType.TheVariants.{RecordId, Digits, Char, Varchar}
-use Rattle.fields.specs.Fields.{is_read, fits_filled, fits_type}
+use Rattle.fields.specs.Fields.{fits_filled, fits_type}
 use Rattle.fields.proofs.Fits.{fits_filled_lem}
 use Rattle.readings.specs.declared.Run.{Run}
 use Rattle.readings.specs.InsideLeadingBytes.{field_end, leading_field, Ends, AllRead, TextRead}
@@ -51,11 +52,11 @@ module _ (f : List ℕ) where
   empty_fits t e = rw e
 
   -- ---- of fixed length
-  fixed_told : (width : ℕ) → fits_filled (Digits width) f ≡ true → (length f ≡ width) × (is_read (digits_of f) ≡ true)
+  fixed_told : (width : ℕ) → fits_filled (Digits width) f ≡ true → (length f ≡ width) × (is_some (digits_of f) ≡ true)
   unfolding fixed_digits_of
   fixed_told width e = go (eqb (length f) width) refl e
     where
-      go : (b : Bool) → eqb (length f) width ≡ b → is_read (cond b (digits_of f) Other) ≡ true → (length f ≡ width) × (is_read (digits_of f) ≡ true)
+      go : (b : Bool) → eqb (length f) width ≡ b → is_some (cond b (digits_of f) None) ≡ true → (length f ≡ width) × (is_some (digits_of f) ≡ true)
       go true q o = (eqb-true (length f) width q, o)
       go false q o = absurd (let z : ◌≡◌ {A = ℕ} 0 1 = cc in omega arith)
 

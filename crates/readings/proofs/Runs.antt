@@ -7,7 +7,7 @@ use Rattle.std.proofs.Common.{◌≡◌, ℕ, zero, suc, ◌+◌, ◌-◌, ◌*�
 use Rattle.readings.specs.declared.Run.{Run}
 use Rattle.readings.specs.InsideLeadingBytes.{DigitsRead, AllRead}
 use Rattle.digits.specs.Digits.{is_digit, all_digits, followed_by, number_of}
-use Rattle.digits.proofs.Laws.{both_true, number_bound}
+use Rattle.digits.proofs.Laws.{ten_room, both_true, number_bound}
 
 digits_and_one : (t : List ℕ) (b : ℕ) → all_digits t ≡ true → 48 ≤ b → b ≤ 57 → all_digits (t ++ (b ∷ [])) ≡ true
 unfolding all_digits
@@ -30,6 +30,10 @@ module _ (s : List ℕ) (i : ℕ) where
 
   pub run_bound : i ≤ length s → all_digits (take i s) ≡ true → number_of (take i s) < 10 ^ i
   run_bound h d = subst (λ (m : ℕ). number_of (take i s) < 10 ^ m) (length-take-le i s h) (number_bound (take i s) d)
+
+  -- at most 15 digits write a small number
+  pub small_run : (value : ℕ) → i ≤ length s → i ≤ 15 → all_digits (take i s) ≡ true → value ≡ number_of (take i s) → value < 10 ^ 15
+  small_run value within few digits e = rw e (ten_room i (run_bound within digits) few)
 
 -- a byte among digits is one
 pub digit_at : (t : List ℕ) (k : ℕ) → k < length t → all_digits t ≡ true → (48 ≤ get_or t k 0) × (get_or t k 0 ≤ 57)

@@ -1,6 +1,6 @@
 -- What is read of an amount that stands at the start of a line's bytes: where the field ends, and what it says as one number.
 -- Assumes nothing.
-use Rattle.std.specs.Prelude.{◌≡◌, ℕ, ◌+◌, ◌^◌, ◌<◌, ◌≤◌, true, false, List, length, take}
+use Rattle.std.specs.Prelude.{◌≡◌, ℕ, ◌+◌, ◌^◌, ◌<◌, ◌≤◌, true, false, List, length, take, Option, Some, None}
 use Rattle.digits.specs.Digits.{all_digits, number_of}
 use Rattle.amounts.specs.Amounts.{is_unsigned, units_of}
 use Rattle.readings.specs.declared.Reading.{Reading}
@@ -22,7 +22,7 @@ pub record WholeRead (s : List ℕ) (w p whole : ℕ) : Type 0 where
   pub value : w ≡ number_of (take p s)
   pub longest : (m : ℕ) → m ≤ length s → m ≤ 15 → all_digits (take m s) ≡ true → m ≤ p
 
--- whether an amount without its sign stands at the start of s, and then what is read of it
-abbrev pub MagnitudeTold : ℕ → ℕ → List ℕ → Reading → Type 0
-MagnitudeTold whole scale s r =
-    (r.fits ≡ true → MagnitudeRead whole scale s r) × (r.fits ≡ false → is_unsigned whole scale (leading_field s) ≡ false)
+-- what is read of an amount without its sign at the start of s, or none where there is none
+abbrev pub MagnitudeTold : ℕ → ℕ → List ℕ → Option Reading → Type 0
+MagnitudeTold whole scale s (Some r) = MagnitudeRead whole scale s r
+MagnitudeTold whole scale s None = is_unsigned whole scale (leading_field s) ≡ false

@@ -6,12 +6,9 @@
 ghost use Rattle.std.specs.Prelude.{◌≡◌, ℕ, ◌+◌, ◌-◌, ◌*◌, ◌^◌, ◌<◌, ◌≤◌, true, false, cond, List, length, slice_index, slice_index_or};
 ghost use Rattle.readings.specs.InsideLeadingBytes.{Ends, DigitsRead, AllRead, TextRead};
 ghost use Rattle.readings.specs.InsideAmountReadings.{WholeRead, MagnitudeTold};
-ghost use Rattle.calendar.specs.InsideFirstDays.{first_days};
 ghost use Rattle.fields.specs.declared.FieldType.TheVariants.{RecordId, Digits, Number, Date, DateTime, Char, Varchar};
 ghost use Rattle.tables.specs.InsideCodes.{type_of_code};
-ghost use Rattle.readings.specs.InsideReadings.{FieldTold, is_narrow};
-
-use calendar::Day;
+ghost use Rattle.readings.specs.InsideReadings.{FieldRead, FieldTold, is_narrow};
 
 // The bytes that were read, and the number that they write.
 #[derive(Clone, Copy)]
@@ -20,10 +17,9 @@ pub struct Run {
     pub value: u64,
 }
 
-// Whether a field fits its type, and then where it ends and what it says as one number. Where it doesn't fit, nothing is known.
+// What is read of a field that fits its type: where it ends, and what it says as one number.
 #[derive(Clone, Copy)]
 pub struct Reading {
-    pub fits: bool,
     pub len: usize,
     pub number: u64,
 }
@@ -40,12 +36,10 @@ fn begins_with_eight(s: &[u8]) -> bool
     ensures { result ≡ true → (k : ℕ) → k < 8 → (48 ≤ slice_index s.now k) × (slice_index s.now k ≤ 57) }
 {
     let mut all = true;
-    let mut i: usize = 0;
-    while i < 8 {
-        if 9 < std::num::wrapping_sub_u8(s[i], 48) {
+    for i in 0..8 {
+        if 9 < s[i].wrapping_sub(b'0') {
             all = false;
         }
-        i += 1;
     }
     all
 }
@@ -59,10 +53,8 @@ fn eight_digits(s: &[u8]) -> Run
         return no_digits();
     }
     let mut value: u64 = 0;
-    let mut i: usize = 0;
-    while i < 8 {
-        value = value * 10 + (lists::wide(s[i]) - 48);
-        i += 1;
+    for i in 0..8 {
+        value = value * 10 + u64::from(s[i] - b'0');
     }
     Run { len: 8, value }
 }
@@ -72,18 +64,16 @@ fn more_digits(s: &[u8], run: Run) -> Run
     requires { DigitsRead s.now run }
     ensures { AllRead s.now result }
 {
-    let n = if s.len() < 15 { s.len() } else { 15 };
+    let n = s.len().min(15);
     let mut value = run.value;
-    let mut len = run.len;
-    while len < n {
-        let digit = std::num::wrapping_sub_u64(lists::wide(s[len]), 48);
+    for len in run.len..n {
+        let digit = s[len].wrapping_sub(b'0');
         if 9 < digit {
             return Run { len, value };
         }
-        value = value * 10 + digit;
-        len += 1;
+        value = value * 10 + u64::from(digit);
     }
-    Run { len, value }
+    Run { len: n, value }
 }
 
 // The digits at the start of s, at most 15.
@@ -107,18 +97,16 @@ pub fn many_leading_digits(s: &[u8]) -> Run
 pub fn leading_text(s: &[u8]) -> Run
     ensures { TextRead s.now result }
 {
-    let n = if s.len() < 4 { s.len() } else { 4 };
+    let n = s.len().min(4);
     let mut value: u64 = 0;
-    let mut len: usize = 0;
-    while len < n {
+    for len in 0..n {
         let b = s[len];
-        if b == 44 {
+        if b == b',' {
             return Run { len, value };
         }
-        value = value * 256 + lists::wide(b);
-        len += 1;
+        value = value * 256 + u64::from(b);
     }
-    Run { len, value }
+    Run { len: n, value }
 }
 
 // Whether the field at the start of s can end at k.
@@ -142,26 +130,6 @@ pub fn next_byte(s: &[u8], k: usize) -> u8
     s[k]
 }
 
-pub fn misses() -> Reading
-    ensures { result.fits ≡ false }
-{
-    Reading {
-        fits: false,
-        len: 0,
-        number: 0,
-    }
-}
-
-pub fn reads(len: usize, number: u64) -> Reading
-    ensures { (result.fits ≡ true) × (result.len ≡ len) × (result.number ≡ number) }
-{
-    Reading {
-        fits: true,
-        len,
-        number,
-    }
-}
-
 // The units of an amount: its whole part, and the number that the q digits after its point write. Where it is too wide for an amount, 0.
 fn scaled(w: u64, f: u64, q: usize, whole: usize, scale: usize) -> u64
     requires { (w < 10 ^ whole) × (f < 10 ^ q) × (q ≤ scale) }
@@ -177,207 +145,208 @@ fn scaled(w: u64, f: u64, q: usize, whole: usize, scale: usize) -> u64
 }
 
 // The whole part of an amount, which ends the field, or the whole part and what stands after the point at p.
-fn read_places(s: &[u8], w: u64, p: usize, whole: usize, scale: usize) -> Reading
+fn read_places(s: &[u8], w: u64, p: usize, whole: usize, scale: usize) -> Option<Reading>
     requires { WholeRead s.now w p whole × (whole ≤ 15) × (scale ≤ 15) }
     ensures { MagnitudeTold whole scale s.now result }
 {
     let next = next_byte(s, p);
     if next == 44 {
-        return reads(p, scaled(w, 0, 0, whole, scale));
+        return Some(Reading {
+            len: p,
+            number: scaled(w, 0, 0, whole, scale),
+        });
     }
     if next != 46 {
-        return misses();
+        return None;
     }
     let run = leading_digits(&s[p + 1..]);
     let q = run.len;
     if q < 1 {
-        return misses();
+        return None;
     }
     if scale < q {
-        return misses();
+        return None;
     }
     if !ends_at(s, p + 1 + q) {
-        return misses();
+        return None;
     }
-    reads(p + 1 + q, scaled(w, run.value, q, whole, scale))
+    Some(Reading {
+        len: p + 1 + q,
+        number: scaled(w, run.value, q, whole, scale),
+    })
 }
 
 // An amount without its sign.
-pub fn read_magnitude(s: &[u8], whole: usize, scale: usize) -> Reading
+pub fn read_magnitude(s: &[u8], whole: usize, scale: usize) -> Option<Reading>
     requires { (whole ≤ 15) × (scale ≤ 15) }
     ensures { MagnitudeTold whole scale s.now result }
 {
     let run = leading_digits(s);
     let p = run.len;
     if p < 1 {
-        return misses();
+        return None;
     }
     if whole < p {
-        return misses();
+        return None;
     }
     read_places(s, run.value, p, whole, scale)
 }
 
 // The ID that some digits at the start of s are, where they end the field.
-fn id_of(s: &[u8], run: Run) -> Reading
+fn id_of(s: &[u8], run: Run) -> Option<Reading>
     requires { AllRead s.now run }
     ensures { FieldTold RecordId s.now result }
 {
     let len = run.len;
     if !ends_at(s, len) {
-        return misses();
+        return None;
     }
     if len == 0 {
-        return reads(0, 0);
+        return Some(Reading { len: 0, number: 0 });
     }
-    reads(len, run.value + 1)
+    Some(Reading {
+        len,
+        number: run.value + 1,
+    })
 }
 
 // A Record, Parent or Reference ID.
-pub fn read_id(s: &[u8]) -> Reading
+pub fn read_id(s: &[u8]) -> Option<Reading>
     ensures { FieldTold RecordId s.now result }
 {
     id_of(s, leading_digits(s))
 }
 
 // The same, where it is likely to have eight digits or more.
-fn read_long_id(s: &[u8]) -> Reading
+fn read_long_id(s: &[u8]) -> Option<Reading>
     ensures { FieldTold RecordId s.now result }
 {
     id_of(s, many_leading_digits(s))
 }
 
 // An ID of just so many digits.
-fn read_digits(s: &[u8], width: usize) -> Reading
+fn read_digits(s: &[u8], width: usize) -> Option<Reading>
     ensures { FieldTold (Digits width) s.now result }
 {
-    let id = read_long_id(s);
-    let len = id.len;
-    if len == 0 {
-        return id;
+    let id = read_long_id(s)?;
+    if id.len == 0 || id.len == width {
+        return Some(id);
     }
-    if len == width {
-        return id;
-    }
-    misses()
+    None
 }
 
 // The date that an ID of eight digits writes. An empty field, whose number is 0, is an empty date.
-fn date_of(days: &[u64], id: Reading) -> Reading
-    requires { days.now ≡ first_days }
-    ensures { (s : List ℕ) → FieldTold (Digits 8) s id → FieldTold Date s result }
+fn date_of(id: Reading) -> Option<Reading>
+    ensures { (s : List ℕ) → FieldRead (Digits 8) s id → FieldTold Date s result }
 {
-    let fits = id.fits;
-    let number = id.number;
-    if !fits {
-        return id;
+    if id.number == 0 {
+        return Some(id);
     }
-    if number == 0 {
-        return id;
-    }
-    match calendar::date_day(days, number - 1) {
-        Day::At(day) => reads(8, day + 1),
-        Day::NotADate => misses(),
-    }
+    let day = calendar::date_day(id.number - 1)?;
+    Some(Reading {
+        len: 8,
+        number: day + 1,
+    })
 }
 
 // An ID of just so many digits, or a date, which has eight. One call reads the digits of both, so that it is compiled into the loop over a line's fields.
-fn read_fixed(days: &[u64], s: &[u8], width: usize, is_date: bool) -> Reading
-    requires { days.now ≡ first_days }
+fn read_fixed(s: &[u8], width: usize, is_date: bool) -> Option<Reading>
     ensures { FieldTold (cond is_date Date (Digits width)) s.now result }
 {
     let digits = if is_date { 8 } else { width };
-    let id = read_digits(s, digits);
+    let id = read_digits(s, digits)?;
     if is_date {
-        return date_of(days, id);
+        return date_of(id);
     }
-    id
+    Some(id)
 }
 
-fn read_date_time(days: &[u64], s: &[u8]) -> Reading
-    requires { days.now ≡ first_days }
+fn read_date_time(s: &[u8]) -> Option<Reading>
     ensures { FieldTold DateTime s.now result }
 {
     let len = lists::find(s, 44);
-    if fields::is_date_time(days, &s[..len]) {
-        return reads(len, 0);
+    if fields::is_date_time(&s[..len]) {
+        return Some(Reading { len, number: 0 });
     }
-    misses()
+    None
 }
 
 // An amount. One call reads it with a minus and without, so that it is compiled into the loop over a line's fields.
-fn read_number(s: &[u8], precision: usize, scale: usize) -> Reading
+fn read_number(s: &[u8], precision: usize, scale: usize) -> Option<Reading>
     requires { (precision - scale ≤ 15) × (scale ≤ 15) }
     ensures { FieldTold (Number precision scale) s.now result }
 {
     let first = next_byte(s, 0);
     if first == 44 {
-        return reads(0, 0);
+        return Some(Reading { len: 0, number: 0 });
     }
     if precision <= scale {
-        return misses();
+        return None;
     }
     let minus: usize = if first == 45 { 1 } else { 0 };
-    let size = read_magnitude(&s[minus..], precision - scale, scale);
-    let fits = size.fits;
-    let len = size.len;
-    let number = size.number;
-    if !fits {
-        return misses();
-    }
-    reads(len + minus, amounts::saying(precision, first == 45, number))
+    let size = read_magnitude(&s[minus..], precision - scale, scale)?;
+    Some(Reading {
+        len: size.len + minus,
+        number: amounts::saying(precision, first == 45, size.number),
+    })
 }
 
-pub fn read_char(s: &[u8], width: usize) -> Reading
+pub fn read_char(s: &[u8], width: usize) -> Option<Reading>
     requires { width ≤ 4 }
     ensures { FieldTold (Char width) s.now result }
 {
     let run = leading_text(s);
     let len = run.len;
     if !ends_at(s, len) {
-        return misses();
+        return None;
     }
     if len == 0 {
-        return reads(0, 0);
+        return Some(Reading { len: 0, number: 0 });
     }
     if len == width {
-        return reads(len, run.value);
+        return Some(Reading {
+            len,
+            number: run.value,
+        });
     }
-    misses()
+    None
 }
 
-fn read_varchar(s: &[u8], width: usize) -> Reading
+fn read_varchar(s: &[u8], width: usize) -> Option<Reading>
     ensures { FieldTold (Varchar width) s.now result }
 {
     let run = leading_text(s);
     let short = run.len;
     if ends_at(s, short) {
         if short <= width {
-            return reads(short, run.value);
+            return Some(Reading {
+                len: short,
+                number: run.value,
+            });
         }
-        return misses();
+        return None;
     }
     if width <= 4 {
-        return misses();
+        return None;
     }
     let len = lists::find(s, 44);
     if len <= width {
-        return reads(len, 0);
+        return Some(Reading { len, number: 0 });
     }
-    misses()
+    None
 }
 
 // The field of the type that a code stands for.
-pub fn read_field(days: &[u64], code: usize, s: &[u8]) -> Reading
-    requires { (days.now ≡ first_days) × (is_narrow (type_of_code code) ≡ true) }
+pub fn read_field(code: usize, s: &[u8]) -> Option<Reading>
+    requires { is_narrow (type_of_code code) ≡ true }
     ensures { FieldTold (type_of_code code) s.now result }
 {
     let first = code / 256 % 256;
     let kind = code / 65536;
     match kind {
-        1 | 3 => read_fixed(days, s, first, kind == 3),
+        1 | 3 => read_fixed(s, first, kind == 3),
         2 => read_number(s, first, code % 256),
-        4 => read_date_time(days, s),
+        4 => read_date_time(s),
         5 => read_char(s, first),
         6 => read_varchar(s, first),
         _ => read_id(s),

@@ -1,8 +1,7 @@
 -- The places of a file's lines and of a line's parts.
 -- Assumes nothing.
 use Rattle.std.specs.Prelude.{ℕ, ◌-◌, ◌≤◌, ◌<◌, ◌≡◌, ◌⊎◌, List, [], ◌∷◌, Bool, true, false, cond, ◌&&◌, length, take, drop, leb, ltb, T}
-use Rattle.records.specs.declared.Lines.{Lines}
-use Rattle.records.specs.declared.Lines.TheVariants.{Count, TooMany}
+use Rattle.std.specs.Prelude.{Option, Some, None}
 use Rattle.records.specs.Text.{chomp, lines_of}
 
 -- the bytes from place a up to place e
@@ -49,6 +48,6 @@ abbrev pub LinesPlaced : List ℕ → ℕ → List ℕ → List ℕ → Type 0
 LinesPlaced s n bs es = Placed s n bs es (placed_lines s n bs es)
 
 -- what a search for the lines of s answers, and leaves in `bs` and `es`
-abbrev pub LinesFound : List ℕ → List ℕ → List ℕ → Lines → Type 0
-LinesFound s bs es (Count n) = Placed s n bs es (lines_of s)
-LinesFound s bs es TooMany = (length bs < length (lines_of s)) ⊎ (length es < length (lines_of s))
+abbrev pub LinesFound : List ℕ → List ℕ → List ℕ → Option ℕ → Type 0
+LinesFound s bs es (Some n) = Placed s n bs es (lines_of s)
+LinesFound s bs es None = (length bs < length (lines_of s)) ⊎ (length es < length (lines_of s))

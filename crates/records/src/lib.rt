@@ -3,17 +3,12 @@
 #![tactic(auto)]
 
 ghost use Rattle.std.specs.Prelude.{◌≡◌, ◌≤◌, ◌<◌, length, take, cond, ltb};
-ghost use Rattle.records.specs.InsidePlacedLines.{LineEnd, LinesFound, part, At};
+ghost use Rattle.records.specs.Text.{lines_of};
+ghost use Rattle.records.specs.InsidePlacedLines.{LineEnd, LinesFound, part, At, Placed};
 ghost use Rattle.records.specs.InsideLineEnds.{line_ends};
 ghost use Rattle.tables.specs.Types.{type_named};
 ghost use Rattle.records.specs.Records.{field};
 ghost use Rattle.records.specs.InsidePlacedFields.{number_among, field_among, fields_at, FieldsPlaced, RecordFound};
-
-#[derive(Clone, Copy)]
-pub enum Lines {
-    Count(usize),
-    TooMany,
-}
 
 // The end of the line from a up to e, without a byte 13 where a byte 10 stands at e.
 fn line_end(file: &[u8], a: usize, e: usize) -> usize
@@ -22,7 +17,7 @@ fn line_end(file: &[u8], a: usize, e: usize) -> usize
 {
     if e < file.len() {
         if a < e {
-            if file[e - 1] == 13 {
+            if file[e - 1] == b'\r' {
                 return e - 1;
             }
         }
@@ -30,27 +25,37 @@ fn line_end(file: &[u8], a: usize, e: usize) -> usize
     e
 }
 
-// The places of the lines of a file, where there is room for all of them.
-pub fn find_lines(file: &[u8], starts: &mut [usize], ends: &mut [usize]) -> Lines
+// Finds the places of the lines of a file and returns their number, or none where there is no room for all of them. A `while`: the bytes say where a line ends.
+pub fn find_lines(file: &[u8], starts: &mut [usize], ends: &mut [usize]) -> Option<usize>
     ensures { LinesFound file.now starts.new ends.new result }
 {
     let mut n: usize = 0;
     let mut a: usize = 0;
     while a < file.len() {
         if starts.len() <= n {
-            return Lines::TooMany;
+            return None;
         }
         if ends.len() <= n {
-            return Lines::TooMany;
+            return None;
         }
-        let e = a + lists::find_far(&file[a..], 10);
+        let e = a + lists::find_far(&file[a..], b'\n');
         let stop = line_end(file, a, e);
         starts[n] = a;
         ends[n] = stop;
         n += 1;
         a = e + 1;
     }
-    Lines::Count(n)
+    Some(n)
+}
+
+// A file whose n lines are found.
+#[derive(Clone, Copy)]
+pub struct FoundLines<'a> {
+    pub bytes: &'a [u8],
+    pub starts: &'a [usize],
+    pub ends: &'a [usize],
+    pub n: usize,
+    pub ghost placed: { Placed bytes.now n starts.now ends.now (lines_of bytes.now) },
 }
 
 // How many bytes 10 stand in few bytes. 8 bits count them, so that many bytes are compared at once.
@@ -59,27 +64,25 @@ fn ends_in(s: &[u8]) -> u8
     ensures { result ≡ line_ends s.now }
 {
     let mut count: u8 = 0;
-    let mut i: usize = 0;
-    while i < s.len() {
-        if s[i] == 10 {
+    for i in 0..s.len() {
+        if s[i] == b'\n' {
             count += 1;
         }
-        i += 1;
     }
     count
 }
 
 // How many bytes 10 a file has: it has at most one line more. They are counted in blocks, of each of which 8 bits hold the count.
+// Nothing calls it since Book reads a run where it stands: it stays for the promise that its must-fail edit breaks.
 pub fn line_ends(file: &[u8]) -> usize
     ensures { result ≡ line_ends file.now }
 {
+    let blocks = file.len() / 128;
     let mut count: usize = 0;
-    let mut a: usize = 0;
-    while 128 <= file.len() - a {
-        count += ends_in(&file[a..a + 128]) as usize;
-        a += 128;
+    for k in 0..blocks {
+        count += usize::from(ends_in(&file[k * 128..k * 128 + 128]));
     }
-    count + ends_in(&file[a..]) as usize
+    count + usize::from(ends_in(&file[blocks * 128..]))
 }
 
 // A record's type is its place among FH, SH, TH, DU, DD, DM, CH, OC, FT, or 9. A line of more than 24 fields has type 9 and count 0.
@@ -97,7 +100,7 @@ fn third(file: &[u8], n: usize, a: usize, e: usize) -> u64
     ensures { result ≡ cond (ltb 2 n) (type_named (part file.now a e)) 9 }
 {
     if n < 3 {
-        return 9;
+        return tables::NO_TYPE;
     }
     tables::type_named(&file[a..e])
 }
@@ -109,18 +112,17 @@ pub fn record_at(file: &[u8], start: usize, end: usize) -> Record
 {
     let mut starts = [0usize; 24];
     let mut ends = [0usize; 24];
-    let mut n: usize = 0;
     let mut a = start;
-    while n < 24 {
-        let e = a + lists::find(&file[a..end], 44);
+    for n in 0..24 {
+        let e = a + lists::find(&file[a..end], b',');
         starts[n] = a;
         ends[n] = e;
-        n += 1;
         if e == end {
-            let record_type = third(file, n, starts[2], ends[2]);
+            let count = n + 1;
+            let record_type = third(file, count, starts[2], ends[2]);
             return Record {
                 record_type,
-                count: n,
+                count,
                 starts,
                 ends,
             };

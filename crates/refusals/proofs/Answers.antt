@@ -6,12 +6,9 @@ use mathlib.Core.Path.{◌≡◌, refl}
 use mathlib.Core.List.{List}
 use Prim.Native.Nat.{ℕ, ◌/◌, ◌%◌, ◌^◌, ◌<◌}
 use native.Mathlib.Omega.{arith}
-use Rattle.calendar.specs.declared.Day.{Day}
-use Rattle.calendar.specs.declared.Day.TheVariants.{At, NotADate}
+use Rattle.std.specs.Prelude.{Option, Some, None}
 use Rattle.calendar.specs.Calendar.{day_of}
 use Rattle.calendar.proofs.Dates.{day_bound}
-use Rattle.refusals.specs.declared.RejectionCode.{RejectionCode}
-use Rattle.refusals.specs.declared.RejectionCode.TheVariants.{Code, NotATest}
 use Rattle.refusals.specs.Codes.{code_of}
 use Rattle.refusals.proofs.RejectionCodes.{code_range}
 use Rattle.refusals.specs.Check.{check_of}
@@ -31,13 +28,13 @@ check_fits retailer distributors file = omega (arith, (check_small retailer dist
 pub day_fits : (date : List ℕ) → (day_answer (day_of date)).value < 2 ^ 32
 day_fits date = go (day_of date) refl
   where
-    go : (r : Day) → day_of date ≡ r → (day_answer r).value < 2 ^ 32
-    go (At day) e = omega (arith, day_bound date day e)
-    go NotADate e = omega arith
+    go : (r : Option ℕ) → day_of date ≡ r → (day_answer r).value < 2 ^ 32
+    go (Some day) e = omega (arith, day_bound date day e)
+    go None e = omega arith
 
 pub code_fits : (test : ℕ) → (code_answer (code_of test)).value < 2 ^ 32
 code_fits test = go (code_of test) refl
   where
-    go : (r : RejectionCode) → code_of test ≡ r → (code_answer r).value < 2 ^ 32
-    go (Code code) e = omega (arith, (code_range test code e).1)
-    go NotATest e = omega arith
+    go : (r : Option ℕ) → code_of test ≡ r → (code_answer r).value < 2 ^ 32
+    go (Some code) e = omega (arith, (code_range test code e).1)
+    go None e = omega arith

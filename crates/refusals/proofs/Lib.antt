@@ -5,4 +5,5 @@ pub mod Joined
 pub mod Outcomes
 pub mod Refusals
 pub mod RejectionCodes
+pub mod Results
 pub mod Stages

@@ -1,11 +1,8 @@
 -- Document 01's number and value for each case of an answer, and the word in which the host gets them.
 -- Assumes nothing.
 use Rattle.std.specs.Prelude.{ℕ, ◌+◌, ◌*◌, ◌^◌}
-use Rattle.calendar.specs.declared.Day.{Day}
-use Rattle.calendar.specs.declared.Day.TheVariants.{At, NotADate}
+use Rattle.std.specs.Prelude.{Option, Some, None}
 use Rattle.refusals.specs.declared.Outcome.{Outcome}
-use Rattle.refusals.specs.declared.RejectionCode.{RejectionCode}
-use Rattle.refusals.specs.declared.RejectionCode.TheVariants.{Code, NotATest}
 
 -- the refusal's number, 0 where there is none, and the line or the value asked for
 pub record Answer : Type 0 where
@@ -20,11 +17,11 @@ abbrev pub check_answer : Outcome → Answer
 check_answer o = record { number = o.number; value = o.line }
 
 -- document 01, "Operations": "Day of a date. 3 if it isn't one."
-abbrev pub day_answer : Day → Answer
-day_answer (At day) = record { number = 0; value = day }
-day_answer NotADate = record { number = 3; value = 0 }
+abbrev pub day_answer : Option ℕ → Answer
+day_answer (Some day) = record { number = 0; value = day }
+day_answer None = record { number = 3; value = 0 }
 
 -- document 01, "Operations": "Rejection code of a test. 107 if the number isn't a Table 5-1 test listed here"
-abbrev pub code_answer : RejectionCode → Answer
-code_answer (Code code) = record { number = 0; value = code }
-code_answer NotATest = record { number = 107; value = 0 }
+abbrev pub code_answer : Option ℕ → Answer
+code_answer (Some code) = record { number = 0; value = code }
+code_answer None = record { number = 107; value = 0 }

@@ -1,8 +1,7 @@
 -- Document 01, "Operations": "Rejection code of a test. 107 if the number isn't a Table 5-1 test listed here (101 and 102 aren't). Otherwise the code from A5.24".
 -- Assumes nothing.
 use Rattle.std.specs.Prelude.{ℕ, List, [], ◌∷◌, cond, eqb}
-use Rattle.refusals.specs.declared.RejectionCode.{RejectionCode}
-use Rattle.refusals.specs.declared.RejectionCode.TheVariants.{Code, NotATest}
+use Rattle.std.specs.Prelude.{Option, Some, None}
 
 -- the tests of Table 5-1 that document 01 lists, each with the code whose name in A5.24 is that of the test. Request 2: "tests that requests add count as listed in
 -- document 01, their A5.24 codes included"
@@ -34,9 +33,9 @@ rejection_codes =
     ∷ []
 
 -- the code that a list of tests gives a number
-unfoldable pub code_in : List (ℕ × ℕ) → ℕ → RejectionCode
-code_in [] n = NotATest
-code_in (t ∷ rest) n = cond (eqb n t.0) (Code t.1) (code_in rest n)
+unfoldable pub code_in : List (ℕ × ℕ) → ℕ → Option ℕ
+code_in [] n = None
+code_in (t ∷ rest) n = cond (eqb n t.0) (Some t.1) (code_in rest n)
 
-unfoldable pub code_of : ℕ → RejectionCode
+unfoldable pub code_of : ℕ → Option ℕ
 code_of n = code_in rejection_codes n

@@ -7,15 +7,8 @@ ghost use Rattle.std.specs.Prelude.{◌≡◌};
 ghost use Rattle.calendar.specs.Calendar.{day_of};
 ghost use Rattle.refusals.specs.Answers.{packed, day_answer, code_answer};
 ghost use Rattle.refusals.specs.Codes.{code_of};
+ghost use Rattle.refusals.specs.InsideResults.{TestTold};
 ghost use Rattle.refusals.specs.Refusals.{outcome};
-
-use calendar::Day;
-
-#[derive(Clone, Copy)]
-pub enum RejectionCode {
-    Code(u64),
-    NotATest,
-}
 
 // The code of each test from 0 to 40; 0 where document 01 lists no such test.
 const CODES: [u64; 41] = [
@@ -24,41 +17,35 @@ const CODES: [u64; 41] = [
     6044,
 ];
 
-// The code of a test, or that document 01 lists no such test.
-pub fn code_of(test: u64) -> RejectionCode
+// The code of a test, or none where document 01 lists no such test.
+pub fn code_of(test: u64) -> Option<u64>
     ensures { result ≡ code_of test }
 {
     if 40 < test {
-        return RejectionCode::NotATest;
+        return None;
     }
     let code = CODES[test as usize];
     if code == 0 {
-        return RejectionCode::NotATest;
+        return None;
     }
-    RejectionCode::Code(code)
+    Some(code)
 }
 
 // The day of a date, in one word; 3 if it isn't one.
 pub fn day_word(date: &[u8]) -> u64
     ensures { result ≡ packed (day_answer (day_of date.now)) }
 {
-    match calendar::day_of(date) {
-        Day::At(day) => day,
-        Day::NotADate => 3 * 4294967296,
-    }
+    calendar::day_of(date).unwrap_or(3 * 4294967296)
 }
 
 // The rejection code of a test, in one word; 107 if it isn't one of Table 5-1 that document 01 lists.
 pub fn code_word(test: u64) -> u64
     ensures { result ≡ packed (code_answer (code_of test)) }
 {
-    match code_of(test) {
-        RejectionCode::Code(code) => code,
-        RejectionCode::NotATest => 107 * 4294967296,
-    }
+    code_of(test).unwrap_or(107 * 4294967296)
 }
 
-// The refusal's number and line; 0 and 0 where nothing is refused.
+// The refusal's number and line; 0 and 0 where nothing is refused, in the definitions alone. A number: document 01 lists the tests by theirs.
 #[derive(Clone, Copy)]
 pub struct Outcome {
     pub number: u64,
@@ -69,4 +56,14 @@ pub fn refused(number: u64, line: u64) -> Outcome
     ensures { result ≡ outcome number line }
 {
     Outcome { number, line }
+}
+
+// Test `number`, by the first of n records that fails it, or n: refused at that record, or passed.
+pub fn test(number: u64, place: usize, n: usize) -> Result<(), Outcome>
+    ensures { TestTold number n place result }
+{
+    if place < n {
+        return Err(refused(number, place as u64 + 1));
+    }
+    Ok(())
 }

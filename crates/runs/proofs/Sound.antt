@@ -10,16 +10,13 @@ use lib.IntN.{ℤ}
 use lib.ListN.{length, take}
 use Rattle.lists.proofs.Selections.{cases}
 use Rattle.entries.specs.declared.Entry.{Entry}
-use Rattle.entries.specs.InsideWords.{entries_of}
-use Rattle.entries.proofs.Words.{length_entries, take_entries}
+use Rattle.runs.specs.InsideWords.{entries_of}
+use Rattle.runs.proofs.Words.{length_entries, take_entries}
 use Rattle.soundness.specs.Sound.{is_sound, sizes_fit}
-use Rattle.soundness.specs.InsideRoom.{read_count}
+use Rattle.runs.specs.InsideRoom.{read_count}
 use Rattle.soundness.proofs.Meaning.{past_used}
-use Rattle.soundness.proofs.Sizes.{sizes_mean, sizes_amiss}
-
-amiss : (run : List Entry) (used : ℕ) → sizes_fit (length run) used ≡ false → is_sound run used ≡ false
-unfolding is_sound
-amiss run used e = rw e
+use Rattle.soundness.proofs.Sizes.{sizes_mean, sizes_amiss as run_amiss}
+use Rattle.runs.proofs.Sizes.{sizes_amiss}
 
 module _ (ns : List ℕ) (zs : List ℤ) (ys : List Entry) (used : ℕ) (loaded : entries_of ns zs (read_count (length ys) used) ≡ take (read_count (length ys) used) ys) where
   abbrev es : List Entry
@@ -30,7 +27,7 @@ module _ (ns : List ℕ) (zs : List ℤ) (ys : List Entry) (used : ℕ) (loaded 
       cases (sizes_fit (length ys) used)
       (λ e. let fit = (sizes_mean (length ys) used).0 e in
       same fit.0 fit.1 (take_entries ns zs used (length ys) fit.1 ∙ subst (λ (b : Bool). entries_of ns zs (cond b used 0) ≡ take (cond b used 0) ys) e loaded))
-      (λ e. unsound (sizes_amiss ns zs (length ys) used e) (amiss ys used e))
+      (λ e. unsound (sizes_amiss ns zs (length ys) used e) (run_amiss ys used e))
 
   pub loaded_alike : {X : Type 0} (f : List Entry → X) (other : X) → cond (is_sound es used) (f (take used es)) other ≡ cond (is_sound ys used) (f (take used ys)) other
   loaded_alike {X} f other =

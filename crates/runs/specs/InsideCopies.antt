@@ -1,4 +1,4 @@
--- What is copied back into a lent run of entries.
+-- What was copied back into a lent run of entries.
 -- Assumes nothing.
 use Rattle.std.specs.Prelude.{ℕ, List, ◌++◌, take, drop}
 use Rattle.entries.specs.declared.Entry.{Entry}

@@ -3,19 +3,18 @@
 --     live_apart       where no two of the spans gathered meet, live periods of a site share no day
 --     live_meeting     where two meet, the ledger is not sound
 -- Assumes nothing.
-use mathlib.Core.Path.{◌≡◌, sym, ap}
+use mathlib.Core.Path.{◌≡◌, refl}
 use mathlib.Core.List.{List}
 use mathlib.Core.Bool.{Bool, true, false, cond}
 use Prim.Native.Nat.{ℕ, ◌+◌, ◌<◌}
 use native.Mathlib.Omega.{arith}
 use lib.ListN.{length, set}
 use Rattle.apart.specs.InsideApart.{Apart, Meeting}
-use Rattle.apart.specs.InsideGathered.{day_number, Gathering}
+use Rattle.apart.specs.InsideGathered.{Gathering}
 use Rattle.apart.proofs.Gathering.{gathering_more, gathering_skip, gathering_kept, gathering_same, days_apart, days_meet}
 use Rattle.entries.specs.declared.Entry.{Entry}
 use Rattle.entries.specs.Entries.{entry_of}
 use Rattle.soundness.specs.Meaning.{EntryFits, Sound}
-use Rattle.soundness.specs.Sound.{is_live_period}
 use Rattle.soundness.proofs.Meaning.{live_means}
 use Rattle.sound_ledgers.specs.InsideLivePeriods.{live_at, first_day, last_day, LiveApart}
 
@@ -30,16 +29,13 @@ module _ (es : List Entry) where
       gathering_skip (live_at es) (first_day es) (last_day es) _ _ i count
       (gathering_kept (live_at es) (first_day es) (last_day es) firsts lasts i count before v w) live
 
-  pub gathered_more : (i : ℕ) (e : Entry) → e ≡ entry_of es i → {firsts firsts' lasts lasts' : List ℕ} {count count' : ℕ}
+  pub gathered_more : (i : ℕ) → {firsts firsts' lasts lasts' : List ℕ} {count count' : ℕ}
       → Gathering (live_at es) (first_day es) (last_day es) firsts lasts i count → count < length firsts → count < length lasts
-      → firsts' ≡ set firsts count (day_number e.site e.start) → lasts' ≡ set lasts count (day_number e.site e.end) → count' ≡ cond (is_live_period e) (count + 1) count
+      → firsts' ≡ set firsts count (first_day es i) → lasts' ≡ set lasts count (last_day es i) → count' ≡ cond (live_at es i) (count + 1) count
       → Gathering (live_at es) (first_day es) (last_day es) firsts' lasts' (i + 1) count'
-  gathered_more i e is {firsts} {firsts'} {lasts} {lasts'} {count} {count'} before room-first room-last begins ends counted =
+  gathered_more i {firsts} {firsts'} {lasts} {lasts'} {count} {count'} before room-first room-last begins ends counted =
       gathering_same (live_at es) (first_day es) (last_day es) begins ends counted
-      (with_one i firsts lasts count _ _ (is_live_period e) before room-first room-last
-      (ap (λ (x : Entry). day_number x.site x.start) is)
-      (ap (λ (x : Entry). day_number x.site x.end) is)
-      (ap is_live_period (sym is)))
+      (with_one i firsts lasts count _ _ (live_at es i) before room-first room-last refl refl refl)
 
 pub live_apart : (es : List Entry) (used : ℕ) (firsts lasts : List ℕ) (count : ℕ) → Gathering (live_at es) (first_day es) (last_day es) firsts lasts used count
     → Apart firsts lasts count → LiveApart es used

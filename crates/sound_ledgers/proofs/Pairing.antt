@@ -1,14 +1,15 @@
 -- The marks of cancels, with one entry more, and that they make cancels and cancelled entries pair off.
 --     cancels, cancels_named, cancels_opposite what the tests of a cancel and an entry show
---     key_place, named_place_lem                   the entry that a cancel names is the first that has the key named
+--     key_place, named_place_lem               the entry that a cancel names is the first that has the key named
+--     none_earlier, none_cancelled             where it stands no earlier, or a test of the two fails, the cancel has no entry
 --     unpaired_cancel, marked_twice, unmarked  what a sound ledger has not
 --     marked_none, marked_more, marked_kept    the marks of cancels: at the start; one more; the same
 --     paired_off                               where each cancelled entry has a mark, cancels and cancelled entries pair off
 -- Assumes nothing.
 use mathlib.Core.Path.{◌≡◌, sym, ◌∙◌, ap, subst}
 use mathlib.Core.List.{List}
-use mathlib.Core.Bool.{true}
-use Prim.Native.Nat.{ℕ, ◌+◌, ◌<◌}
+use mathlib.Core.Bool.{Bool, true, false, true≢false}
+use Prim.Native.Nat.{ℕ, ◌+◌, ◌≤◌, ◌<◌}
 use native.Mathlib.Omega.{arith}
 use native.Mathlib.Decide.{ℕ_discrete, dec_lt}
 use borrow.Author.Count.{below_none, below_more}
@@ -25,18 +26,18 @@ use Rattle.soundness.proofs.Meaning.{named_means, opposite_means}
 use Rattle.buckets.specs.InsideBuckets.{first_place}
 use Rattle.sound_ledgers.specs.InsideKeys.{key_of, Keyed, KeysDiffer, state_at}
 use Rattle.sound_ledgers.proofs.Keys.{key_tells}
-use Rattle.sound_ledgers.specs.InsidePairing.{Cancels, Marked, WithMarks, PairedOff}
+use Rattle.sound_ledgers.specs.InsidePairing.{KeysOf, Cancels, Marked, WithMarks, PairedOff}
 
 module _ (es : List Entry) where
-  pub cancels : (i j : ℕ) (c e : Entry) → c ≡ entry_of es i → e ≡ entry_of es j → j < i → c.state ≡ 4 → is_named c e ≡ true → opposite c e ≡ true → Cancels es i j
-  cancels i j c e p q earlier state named undone =
-      let named_mean = (named_means (entry_of es i) (entry_of es j)).0 ((λ t. is_named (sym p t) (sym q t)) ∙ named) in
+  pub cancels : (i j : ℕ) → j < i → (entry_of es i).state ≡ 4 → is_named (entry_of es i) (entry_of es j) ≡ true → opposite (entry_of es i) (entry_of es j) ≡ true → Cancels es i j
+  cancels i j earlier state named undone =
+      let named_mean = (named_means (entry_of es i) (entry_of es j)).0 named in
       record {
         earlier = earlier;
-        cancel = ap (λ (x : Entry). x.state) (sym p) ∙ state;
+        cancel = state;
         cancelled = named_mean.0;
         names = named_mean.1;
-        opposite = (opposite_means (entry_of es i) (entry_of es j)).0 ((λ t. opposite (sym p t) (sym q t)) ∙ undone);
+        opposite = (opposite_means (entry_of es i) (entry_of es j)).0 undone;
       }
 
   pub cancels_named : (i j : ℕ) → Cancels es i j → is_named (entry_of es i) (entry_of es j) ≡ true
@@ -79,11 +80,6 @@ module _ (es : List Entry) where
             let both = key_tells _ _ _ _ one.sender two.sender one.id two.id (sym (keyed.copied k (omega arith)) ∙ e ∙ keyed.copied j l) in
             differ k j h l both.0 both.1
 
-    pub named_place_lem : (keys : List ℕ) → Keyed es used keys → (i p place : ℕ) (c : Entry) → i < used → c ≡ entry_of es i → place ≡ first_place keys used (key_of c.sender c.cancels)
-        → Cancels es i p → place ≡ p
-    named_place_lem keys keyed i p place c h is found pair =
-        found ∙ ap (λ (x : Entry). first_place keys used (key_of x.sender x.cancels)) is ∙ key_place keys keyed (entry_of es i) p (omega (arith, pair.earlier)) pair.names
-
     -- ---- what a sound ledger has not
     pub unpaired_cancel : (i : ℕ) → i < used → (entry_of es i).state ≡ 4 → ((j : ℕ) → Cancels es i j → ⊥) → Sound es used → ⊥
     unpaired_cancel i h cancel none sound = let w = sound.cancel_paired i h cancel in none w.0 (of_pair w.1)
@@ -102,6 +98,24 @@ module _ (es : List Entry) where
         let v = M.each w.0 w.1 w.2.cancel in
         let same = one_named (entry_of es w.0) v.0 j (omega (arith, v.1.earlier, w.1)) l v.1.names w.2.names in
         omega (arith, v.2, ap (λ (p : ℕ). get_or marks p 0) same, none))
+
+  -- the place that was looked for, by the key that the cancel names
+  module _ (keys : List ℕ) (K : KeysOf es keys) (i : ℕ) {place named : ℕ} (h : i < length es)
+      (is : named ≡ key_of (entry_of es i).sender (entry_of es i).cancels) (found : place ≡ first_place keys (length keys) named) where
+    named_place_lem : (p : ℕ) → Cancels es i p → place ≡ p
+    named_place_lem p pair =
+        found ∙ (λ t. first_place keys (K.one_each t) (is t))
+        ∙ key_place (length es) K.differ keys K.keyed (entry_of es i) p (omega (arith, pair.earlier)) pair.names
+
+    -- it stands no earlier than the cancel
+    pub none_earlier : i ≤ place → (p : ℕ) → Cancels es i p → ⊥
+    none_earlier late p pair = omega (arith, named_place_lem p pair, pair.earlier)
+
+    -- a test that a cancel and its entry pass, and that fails there
+    pub none_cancelled : (test : Entry → Entry → Bool) → ((p : ℕ) → Cancels es i p → test (entry_of es i) (entry_of es p) ≡ true)
+        → test (entry_of es i) (entry_of es place) ≡ false → (p : ℕ) → Cancels es i p → ⊥
+    none_cancelled test passed fails p pair =
+        true≢false (sym (passed p pair) ∙ ap (λ (k : ℕ). test (entry_of es i) (entry_of es k)) (sym (named_place_lem p pair)) ∙ fails)
 
   pub marked_none : (marks : List ℕ) → ((j : ℕ) → get_or marks j 0 ≡ 0) → Marked es 0 marks
   marked_none marks none = record { each = below_none _; only = λ j some. absurd (some (none j)) }

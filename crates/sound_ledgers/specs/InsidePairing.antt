@@ -1,19 +1,16 @@
 -- What the marks of a ledger's cancels show.
 -- Assumes nothing.
-use Rattle.std.specs.Prelude.{ℕ, ◌+◌, ◌*◌, ◌≤◌, ◌<◌, ◌≡◌, List, length, get_or}
-use Rattle.buckets.specs.InsideTrees.{Indexed}
+use Rattle.std.specs.Prelude.{ℕ, ◌+◌, ◌<◌, ◌≡◌, List, length, get_or}
 use Rattle.entries.specs.declared.Entry.{Entry}
 use Rattle.entries.specs.Entries.{entry_of}
 use Rattle.soundness.specs.Meaning.{Names, Opposite, Paired}
+use Rattle.sound_ledgers.specs.InsideKeys.{Keyed, KeysDiffer}
 
--- the keys of the used entries are in a tree
-pub record KeyIndex (used size : ℕ) (keys tree : List ℕ) : Type 0 where
-  pub keyed : used ≤ length keys
-  pub some : 0 < size
-  pub few : size ≤ 65536
-  pub room : size + 2 * used ≤ length tree
-  pub most : used ≤ 65535
-  pub indexed : Indexed size keys used tree
+-- the keys of the entries, no two of which have the same sender and Record ID
+pub record KeysOf (es : List Entry) (keys : List ℕ) : Type 0 where
+  pub one_each : length keys ≡ length es
+  pub keyed : Keyed es (length es) keys
+  pub differ : KeysDiffer es (length es)
 
 -- ---- "cancels and cancelled entries pair off as 39 and 40 require, the cancelled one earlier"
 -- the cancel at i cancels the entry at j, before it

@@ -1,6 +1,4 @@
-pub mod Conditions
 pub mod Meaning
 pub mod Opposite
-pub mod Opposites
 pub mod Sizes
 pub mod Tests

@@ -1,3 +1,2 @@
-pub mod InsideRoom
 pub mod Meaning
 pub mod Sound

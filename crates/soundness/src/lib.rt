@@ -4,37 +4,18 @@
 
 #![tactic(auto)]
 
-ghost use Rattle.std.specs.Prelude.{◌≡◌, not, cond, ◌||◌, ◌&&◌, ◌<◌, ◌^◌, eqb, ltb, nat_abs, ◌+ℤ◌};
-ghost use Rattle.entries.specs.Entries.{entry_of, is_period};
-ghost use Rattle.entries.specs.InsideWords.{RoomFor, entries_of};
-ghost use Rattle.soundness.specs.InsideRoom.{read_count};
+ghost use Rattle.std.specs.Prelude.{◌≡◌, not, cond, ◌||◌, ◌&&◌, ◌^◌, eqb, ltb, nat_abs, ◌+ℤ◌};
+ghost use Rattle.entries.specs.Entries.{is_period};
 ghost use Rattle.soundness.specs.Sound.{sizes_fit, digits_fit, within, ranges_fit, is_zero, lacks_fit, entry_fits, is_live_period, same_subject, is_named, opposite};
 
 use entries::Entry;
 
-// The entry at a place in use.
-pub fn entry_in_use(words: &[u64], amounts: &[i64], used: usize, i: usize) -> Entry
-    requires { RoomFor used words.now amounts.now × (i < used) }
-    ensures { result ≡ entry_of (entries_of words.now amounts.now used) i }
-{
-    entries::entry_at(words, amounts, i)
-}
-
 // "the run has at most 8,192 entries and the used count doesn't exceed it"
+#[tactic(auto, unfolding(crate::specs::Sound::sizes_fit))]
 pub fn sizes_fit(places: usize, used: usize) -> bool
     ensures { result ≡ sizes_fit places used }
 {
-    if 8192 < places {
-        return false;
-    }
-    used <= places
-}
-
-// How many entries are read of a ledger: those in use, and none where the sizes don't fit.
-pub fn read_count(places: usize, used: usize) -> usize
-    ensures { result ≡ read_count places used }
-{
-    if sizes_fit(places, used) { used } else { 0 }
+    places <= 8192 && used <= places
 }
 
 // Whether an amount has at most 15 digits.
@@ -45,6 +26,7 @@ fn amount_fits(amount: i64) -> bool
 }
 
 // "senders have at most 4 digits, sites 13, IDs and amounts 15"
+#[tactic(auto, unfolding(crate::specs::Sound::digits_fit))]
 fn digits_fit(e: Entry) -> bool
     ensures { result ≡ digits_fit e }
 {
@@ -73,6 +55,7 @@ fn state_fits(e: Entry) -> bool
 }
 
 // "commodities, kinds, states and days are in range, state 0 being for file entries and no others"
+#[tactic(auto, unfolding(crate::specs::Sound::ranges_fit))]
 fn ranges_fit(e: Entry) -> bool
     ensures { result ≡ ranges_fit e }
 {
@@ -99,6 +82,7 @@ fn site_lack_fits(e: Entry) -> bool
 }
 
 // "what a kind lacks is 0, as is the cancelled ID outside state 4"
+#[tactic(auto, unfolding(crate::specs::Sound::lacks_fit))]
 fn lacks_fit(e: Entry) -> bool
     ensures { result ≡ lacks_fit e }
 {
@@ -106,6 +90,7 @@ fn lacks_fit(e: Entry) -> bool
 }
 
 // The sentences that look at one entry. They are joined with no branch between them, as what an entry holds is hard to foresee.
+#[tactic(auto, unfolding(crate::specs::Sound::entry_fits, crate::specs::Sound::days_fit))]
 pub fn entry_fits(e: Entry) -> bool
     ensures { result ≡ entry_fits e }
 {
@@ -115,63 +100,40 @@ pub fn entry_fits(e: Entry) -> bool
 pub fn is_live_period(e: Entry) -> bool
     ensures { result ≡ is_live_period e }
 {
-    if e.state != entries::LIVE {
-        return false;
-    }
-    e.kind == entries::PERIOD
+    e.state == entries::LIVE && e.kind == entries::PERIOD
 }
 
 // Alike in what test 39 compares, but for the Record ID.
 pub fn has_same_subject(a: Entry, b: Entry) -> bool
     ensures { result ≡ same_subject a b }
 {
-    if a.sender != b.sender {
-        return false;
-    }
-    if a.commodity != b.commodity {
-        return false;
-    }
-    if a.kind != b.kind {
-        return false;
-    }
-    if a.site != b.site {
-        return false;
-    }
-    if a.start != b.start {
-        return false;
-    }
-    a.end == b.end
+    a.sender == b.sender
+        && a.commodity == b.commodity
+        && a.kind == b.kind
+        && a.site == b.site
+        && a.start == b.start
+        && a.end == b.end
 }
 
 // Whether an entry is cancelled and has what a cancel names.
+#[tactic(auto, unfolding(crate::specs::Sound::is_named))]
 pub fn is_named(cancel: Entry, e: Entry) -> bool
     ensures { result ≡ is_named cancel e }
 {
-    if e.state != entries::CANCELLED {
-        return false;
-    }
-    if e.id != cancel.cancels {
-        return false;
-    }
-    has_same_subject(cancel, e)
+    e.state == entries::CANCELLED && e.id == cancel.cancels && has_same_subject(cancel, e)
 }
 
 // Whether two amounts add up to 0. The least number has no opposite among the numbers of 64 bits.
 fn are_opposite(a: i64, b: i64) -> bool
     ensures { result ≡ is_zero (a +ℤ b) }
 {
-    if a == -9223372036854775808 {
-        return false;
-    }
-    0 - a == b
+    a.checked_neg() == Some(b)
 }
 
 // Test 40's: charge and usage are the opposites.
+#[tactic(auto, unfolding(crate::specs::Sound::opposite))]
 pub fn is_opposite(cancel: Entry, e: Entry) -> bool
     ensures { result ≡ opposite cancel e }
 {
-    if !are_opposite(cancel.charge, e.charge) {
-        return false;
-    }
-    are_opposite(cancel.usage, e.usage)
+    are_opposite(cancel.charge, e.charge) && are_opposite(cancel.usage, e.usage)
 }

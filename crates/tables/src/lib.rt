@@ -10,7 +10,7 @@ ghost use Rattle.tables.specs.Tables.{field_count, mark_rows};
 ghost use Rattle.tables.specs.InsideRows.{joined};
 ghost use Rattle.tables.specs.InsideCodes.{code_rows};
 
-// The record types.
+// The record types: numbers, as they stand in a column beside other numbers.
 pub const FH: u64 = 0;
 
 pub const SH: u64 = 1;
@@ -63,7 +63,7 @@ pub fn type_named(s: &[u8]) -> u64
     if s.len() != 2 {
         return NO_TYPE;
     }
-    match lists::wide(s[0]) * 256 + lists::wide(s[1]) {
+    match u64::from(s[0]) * 256 + u64::from(s[1]) {
         17992 => FH,
         21320 => SH,
         21576 => TH,
@@ -77,16 +77,15 @@ pub fn type_named(s: &[u8]) -> u64
     }
 }
 
-// The table of which type may follow which. A constant is put onto the stack where it is named: who asks often has it lent.
-pub fn follow_table() -> [[bool; 9]; 9]
-    ensures { result ≡ follow_table }
+// The table of which type may follow which, where it stands.
+fn follow_table() -> &'static [[bool; 9]; 9]
+    ensures { result.now ≡ follow_table }
 {
-    FOLLOWS
+    &FOLLOWS
 }
 
-// Whether a record of the present type may follow one of the previous type, by the table.
-pub fn may_follow(table: &[[bool; 9]; 9], previous: u64, present: u64) -> bool
-    requires { table.now ≡ follow_table }
+// Whether a record of the present type may follow one of the previous type.
+pub fn may_follow(previous: u64, present: u64) -> bool
     ensures { result ≡ may_follow previous present }
 {
     if 9 <= previous {
@@ -95,7 +94,7 @@ pub fn may_follow(table: &[[bool; 9]; 9], previous: u64, present: u64) -> bool
     if 9 <= present {
         return false;
     }
-    table[previous as usize][present as usize]
+    follow_table()[previous as usize][present as usize]
 }
 
 // The type of the record that a record of a type hangs under; FH, which has none, has 9.
@@ -144,10 +143,8 @@ pub fn pick(types: &[u64], values: &[u64], low: u64, high: u64, out: &mut [u64])
     requires { (length values.now ≡ length types.now) × (length types.now ≤ length out.old) }
     ensures { out.new ≡ picked types.now values.now low high ++ drop (length types.now) out.old }
 {
-    let mut i: usize = 0;
-    while i < types.len() {
+    for i in 0..types.len() {
         out[i] = chosen(types[i], values[i], low, high);
-        i += 1;
     }
 }
 
@@ -200,11 +197,11 @@ pub fn field_count(record_type: u64) -> usize
     }
 }
 
-// Whether the fields of the record types are marked Mandatory, 19 a type. A constant is put onto the stack where it is named: who asks often has it lent.
-pub fn marks() -> [bool; 171]
-    ensures { result ≡ joined mark_rows }
+// Whether the fields of the record types are marked Mandatory, 19 a type.
+pub fn marks() -> &'static [bool; 171]
+    ensures { result.now ≡ joined mark_rows }
 {
-    MARKS
+    &MARKS
 }
 
 // The codes of the types: a byte each for the kind and for the two numbers of the type. (A table of enums takes long to check.)
@@ -264,7 +261,7 @@ const VARCHAR_20: usize = 398336;
 
 const VARCHAR_50: usize = 406016;
 
-// The code of the type of each field of each record type: 19 codes a type, as the longest table has.
+// The code of the type of each field of each record type: 19 codes a type, as the longest table has. Numbers: a table of so many enums takes long to check.
 const CODES: [usize; 171] = [
     // Table 4-2, FH: 1 Record ID, 2 Parent ID, 3 Record Type, 4 Retailer ID, 5 Sender ID, 6 Commodity Code, 7 Date Created, 8 Billing Cycle, 9 Tariff
     // Bill File Reference ID
@@ -462,9 +459,9 @@ const CODES: [usize; 171] = [
     RECORD_ID,
 ];
 
-// The codes of the types of the fields of the record types, 19 a type. A constant is put onto the stack where it is named: who asks often has it lent.
-pub fn codes() -> [usize; 171]
-    ensures { result ≡ joined code_rows }
+// The codes of the types of the fields of the record types, 19 a type.
+pub fn codes() -> &'static [usize; 171]
+    ensures { result.now ≡ joined code_rows }
 {
-    CODES
+    &CODES
 }

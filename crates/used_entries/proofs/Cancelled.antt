@@ -6,7 +6,7 @@
 -- Assumes nothing.
 use mathlib.Core.Path.{◌≡◌, refl, ap, ◌∙◌}
 use mathlib.Core.Bool.{Bool, true, false, cond}
-use mathlib.Core.Option.{none, some}
+use Rattle.std.specs.Prelude.{Some, None}
 use mathlib.Core.List.{List, [], ◌∷◌, ◌++◌}
 use Prim.Native.Nat.{ℕ, zero, suc, ◌+◌, ◌≤◌, ◌<◌}
 use native.Mathlib.Numerals.{add-one}
@@ -24,24 +24,24 @@ use Rattle.booking.proofs.Added.{length_cancelled}
 use Rattle.used_entries.specs.InsideNamed.{cancelled_by}
 
 -- ---- the named entry, by its place
-pub named_some : (c : Bill) (l : List Entry) → first_where (names_entry c) l < length l → named_entry c l ≡ some (entry_of l (first_where (names_entry c) l))
+pub named_some : (c : Bill) (l : List Entry) → first_where (names_entry c) l < length l → named_entry c l ≡ Some (entry_of l (first_where (names_entry c) l))
 unfolding first_where
 named_some c [] h = absurd (omega arith)
 named_some c (e ∷ l) h = go (names_entry c e) h (λ k. named_some c l k)
   where
     go : (t : Bool) → cond t 0 (suc (first_where (names_entry c) l)) < suc (length l)
-        → (first_where (names_entry c) l < length l → named_entry c l ≡ some (entry_of l (first_where (names_entry c) l)))
-        → cond t (some e) (named_entry c l) ≡ some (entry_of (e ∷ l) (cond t 0 (suc (first_where (names_entry c) l))))
+        → (first_where (names_entry c) l < length l → named_entry c l ≡ Some (entry_of l (first_where (names_entry c) l)))
+        → cond t (Some e) (named_entry c l) ≡ Some (entry_of (e ∷ l) (cond t 0 (suc (first_where (names_entry c) l))))
     go true h more = refl
     go false h more = more (omega arith)
 
-pub named_none : (c : Bill) (l : List Entry) → length l ≤ first_where (names_entry c) l → named_entry c l ≡ none
+pub named_none : (c : Bill) (l : List Entry) → length l ≤ first_where (names_entry c) l → named_entry c l ≡ None
 unfolding first_where
 named_none c [] h = refl
 named_none c (e ∷ l) h = go (names_entry c e) h (λ k. named_none c l k)
   where
-    go : (t : Bool) → suc (length l) ≤ cond t 0 (suc (first_where (names_entry c) l)) → (length l ≤ first_where (names_entry c) l → named_entry c l ≡ none)
-        → cond t (some e) (named_entry c l) ≡ none
+    go : (t : Bool) → suc (length l) ≤ cond t 0 (suc (first_where (names_entry c) l)) → (length l ≤ first_where (names_entry c) l → named_entry c l ≡ None)
+        → cond t (Some e) (named_entry c l) ≡ None
     go true h more = absurd (omega arith)
     go false h more = more (omega arith)
 

@@ -1,14 +1,14 @@
 -- Laws of numbers as digits.
 --     digits_in_length             w digits are w bytes
---     count_step, count_end        one turn of the loop that counts digits, and its end
+--     count_is                     how many digits a number between powers of ten has
 --     count_few                    no number is given more than 20 digits
 --     plain_length, plain_short    how many bytes a number without leading zeros has
 -- Assumes nothing.
-use mathlib.Core.Path.{◌≡◌, refl, ◌∙◌, ap}
+use mathlib.Core.Path.{◌≡◌, refl, ◌∙◌}
 use mathlib.Core.List.{[], ◌∷◌}
 use mathlib.Core.Bool.{Bool, true, false, cond}
-use Prim.Native.Nat.{ℕ, zero, suc, ◌+◌, ◌-◌, ◌*◌, ◌/◌, ◌%◌, ◌^◌, ◌≤◌, ◌<◌}
-use native.Mathlib.Nat.{pow-suc}
+use Prim.Native.Nat.{ℕ, zero, suc, ◌+◌, ◌*◌, ◌/◌, ◌%◌, ◌^◌, ◌≤◌, ◌<◌}
+use native.Mathlib.Nat.{pow-suc, one-le-pow}
 use native.Mathlib.Numerals.{add-one}
 use native.Mathlib.Omega.{arith}
 use borrow.Author.Tests.{lt-ltb, le-ltb}
@@ -22,19 +22,15 @@ digits_in_length zero n = refl
 digits_in_length (suc w) n = length-append (digits_in w (n / 10)) ((48 + n % 10) ∷ []) ∙ rw (digits_in_length w (n / 10), add-one)
 
 -- ---- how many digits
--- f digits more at most
-pub count_step : (f v : ℕ) → v < 10 ^ (f + 1) → 10 ≤ v → (1 ≤ f) × (v / 10 < 10 ^ f) × (count_up_to f v ≡ suc (count_up_to (f - 1) (v / 10)))
+-- n has k + 1 digits, of f + 1 at most
+pub count_is : (f k n : ℕ) → k ≤ f → n < 10 * 10 ^ k → (1 ≤ k → 10 ^ k ≤ n) → count_up_to f n ≡ k + 1
 unfolding count_up_to
-count_step zero v h l = absurd (omega arith)
-count_step (suc f) v h l =
-    let more : 10 ^ (suc f + 1) ≡ 10 ^ suc f * 10 = ap (λ (k : ℕ). 10 ^ k) (add-one (suc f)) ∙ pow-suc 10 (suc f) in
-    let same : suc f - 1 ≡ f = omega arith in
-    (omega arith, omega arith, rw (le-ltb v 10 l, same))
-
-pub count_end : (f v : ℕ) → v < 10 → count_up_to f v ≡ 1
-unfolding count_up_to
-count_end zero v h = refl
-count_end (suc f) v h = rw (lt-ltb v 10 h)
+count_is zero k n h b l = omega arith
+count_is (suc f) zero n h b l = rw (lt-ltb n 10 (omega arith))
+count_is (suc f) (suc k) n h b l =
+    let more : 10 ^ suc k ≡ 10 ^ k * 10 = pow-suc 10 k in
+    let low = l (omega arith) in
+    rw (le-ltb n 10 (omega (arith, one-le-pow k 10 (omega arith))), count_is f k (n / 10) (omega arith) (omega arith) (λ _. omega arith)) (omega arith)
 
 count_up_to_few : (f n : ℕ) → count_up_to f n ≤ f + 1
 unfolding count_up_to

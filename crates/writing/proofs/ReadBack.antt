@@ -15,7 +15,7 @@ use borrow.Author.Tests.{le-leb, lt-ltb, ltb-true, leb-true, eq-eqb}
 use lib.Dec.{lit<, leb, ltb}
 use lib.ListN.{length, get_or}
 use Rattle.digits.specs.Digits.{is_digit, all_digits, followed_by, number_of, digits_of, fixed_digits_of}
-use Rattle.digits.specs.declared.Number.TheVariants.{Value}
+use Rattle.std.specs.Prelude.{Some}
 use Rattle.digits.proofs.Laws.{all_append, both_true, digits_are, number_bound, ten_room, number_leading_zero}
 use Rattle.writing.specs.Decimals.{digits_in, count_up_to, digit_count, plain_digits}
 use Rattle.writing.proofs.Numbers.{digits_in_length, plain_length}
@@ -106,16 +106,16 @@ module _ (n : ℕ) where
 
 -- ---- what is read of what was written
 -- an ID with all its digits
-pub read_fixed : (w n : ℕ) → 1 ≤ w → w ≤ 15 → n < 10 ^ w → fixed_digits_of w (digits_in w n) ≡ Value n
+pub read_fixed : (w n : ℕ) → 1 ≤ w → w ≤ 15 → n < 10 ^ w → fixed_digits_of w (digits_in w n) ≡ Some n
 unfolding fixed_digits_of
 read_fixed w n l u h =
     let size = digits_in_length w n in
-    rw (eq-eqb _ _ size) (digits_are (digits_in w n) (omega arith) (omega arith) (digits_in_all w n) ∙ ap Value (digits_in_number w n h))
+    rw (eq-eqb _ _ size) (digits_are (digits_in w n) (omega arith) (omega arith) (digits_in_all w n) ∙ ap Some (digits_in_number w n h))
 
 -- an ID without leading zeros
-pub read_plain : (n : ℕ) → n < 10 ^ 15 → digits_of (plain_digits n) ≡ Value n
+pub read_plain : (n : ℕ) → n < 10 ^ 15 → digits_of (plain_digits n) ≡ Some n
 read_plain n h =
-    digits_are (plain_digits n) (plain_some n) (plain_few n 15 (omega arith) h) (plain_all n) ∙ ap Value (plain_number n (omega arith))
+    digits_are (plain_digits n) (plain_some n) (plain_few n 15 (omega arith) h) (plain_all n) ∙ ap Some (plain_number n (omega arith))
 
 -- ---- what is written of what was read
 -- the digits of v, followed by others

@@ -1,4 +1,5 @@
 // Bytes written into a lent run, from a place on: numbers, and bytes as they are. Each function leaves the rest of the run as it was.
+// The run and the place are two parameters, since each promise names both.
 
 #![tactic(auto)]
 
@@ -19,11 +20,9 @@ pub fn write_digits(out: &mut [u8], at: usize, width: usize, n: u64)
     ensures { out.new ≡ written_at out.old at (digits_in width n) }
 {
     let mut v = n;
-    let mut k = width;
-    while 0 < k {
-        k -= 1;
+    for k in (0..width).rev() {
         out[at + k] = last_digit(v);
-        v = v / 10;
+        v /= 10;
     }
 }
 
@@ -32,24 +31,17 @@ pub fn write_bytes(out: &mut [u8], at: usize, bytes: &[u8])
     requires { at + length bytes.now ≤ length out.old }
     ensures { out.new ≡ written_at out.old at bytes.now }
 {
-    let mut k = bytes.len();
-    while 0 < k {
-        k -= 1;
-        out[at + k] = bytes[k];
-    }
+    out[at..at + bytes.len()].copy_from_slice(bytes);
 }
 
 // How many digits n has.
 pub fn digit_count(n: u64) -> usize
     ensures { result ≡ digit_count n }
 {
-    let mut v = n;
-    let mut k: usize = 1;
-    while 10 <= v {
-        v = v / 10;
-        k += 1;
+    match n.checked_ilog10() {
+        Some(k) => k as usize + 1,
+        None => 1,
     }
-    k
 }
 
 // n without leading zeros; returns the place after it.

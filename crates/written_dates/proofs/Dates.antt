@@ -1,6 +1,5 @@
 -- Laws of days as dates.
 --     month_guess         a month of the number day / 31 does not start after the day
---     entry_is, entries   an entry of the table is the first day of its month, and how many there are
 --     in_this, in_last    where the search for the month of a day ends
 --     month_number        the date of a day of a month, as one number
 --     read_date           a date that was written is read as its day
@@ -12,15 +11,12 @@ use Prim.Native.Nat.{ℕ, zero, suc, ◌+◌, ◌-◌, ◌*◌, ◌/◌, ◌%◌
 use native.Mathlib.Numerals.{add-one}
 use native.Mathlib.Omega.{arith}
 use lib.Dec.{eqb}
-use lib.ListN.{length, get_or}
+use lib.ListN.{length}
 use Rattle.digits.specs.Digits.{digits_of, fixed_digits_of}
-use Rattle.digits.specs.declared.Number.{Number}
-use Rattle.digits.specs.declared.Number.TheVariants.{Other}
+use Rattle.std.specs.Prelude.{Option, Some, None}
 use Rattle.calendar.specs.Calendar.{month_days, first_day, month_of, number_day, day_of}
 use Rattle.calendar.specs.InsideDates.{date, date_after}
-use Rattle.calendar.specs.InsideFirstDays.{first_days}
-use Rattle.calendar.specs.declared.Day.TheVariants.{At, NotADate}
-use Rattle.calendar.proofs.Days.{first_order, table_length, rule, month_bounds}
+use Rattle.calendar.proofs.Days.{first_order, month_bounds}
 use Rattle.calendar.proofs.Dates.{date_is, date_says, date_number_lem, one_date}
 use Rattle.writing.proofs.ReadBack.{read_fixed}
 use Rattle.written_dates.specs.InsideDates.{date_number, date_number_of, date_digits, InMonth}
@@ -34,18 +30,14 @@ first_few (suc k) = omega (arith, first_few k, (month_bounds k).1)
 pub month_guess : (day : ℕ) → first_day (day / 31) ≤ day
 month_guess day = omega (arith, first_few (day / 31))
 
-pub entry_is : (table : List ℕ) (k : ℕ) → table ≡ first_days → k < 1200 → get_or table k 0 ≡ first_day k
-entry_is table k e h = ap (λ (l : List ℕ). get_or l k 0) e ∙ rule k h
-
-pub entries : (table : List ℕ) → table ≡ first_days → length table ≡ 1200
-entries table e = ap length e ∙ table_length
-
 pub in_this : (k day next : ℕ) → k < 1199 → first_day k ≤ day → day < next → next ≡ first_day (k + 1) → InMonth k day
 in_this k day next s l h e = record { month = omega arith; low = l; high = subst (λ (d : ℕ). day < d) (e ∙ ap first_day (add-one k)) h }
 
-pub in_last : (k day : ℕ) → k ≡ 1199 → first_day k ≤ day → day ≤ 36524 → InMonth k day
+pub in_last : (k day : ℕ) → k ≡ 1199 → first_day k ≤ day → day ≤ 36524 → InMonth 1199 day
 unfolding first_day month_days
-in_last k day e l h = let end : first_day (suc k) ≡ 36525 = ap (λ (j : ℕ). first_day (suc j)) e in record { month = omega arith; low = l; high = omega arith }
+in_last k day e l h =
+    let end : first_day (suc 1199) ≡ 36525 = refl in
+    record { month = omega arith; low = subst (λ (j : ℕ). first_day j ≤ day) e l; high = omega arith }
 
 -- ---- the date of a day
 month_end : (k : ℕ) → k < 1200 → first_day (suc k) ≤ 36525
@@ -64,7 +56,7 @@ module _ (k day : ℕ) (h : InMonth k day) where
       let start : first_day (month_of (2000 + k / 12) (k % 12 + 1)) ≡ first_day k = ap first_day place in
       one_date (date_after day) (date (2000 + k / 12) (k % 12 + 1) (day - first_day k + 1)) day
       (date_number_lem day (omega arith))
-      (date_is _ _ _ (omega (arith, h.month)) ∙ ap At (omega arith))
+      (date_is _ _ _ (omega (arith, h.month)) ∙ ap Some (omega arith))
 
   pub month_number : date_number_of day ≡ (2000 + k / 12) * 10000 + (k % 12 + 1) * 100 + (day - first_day k + 1)
   unfolding date_number_of
@@ -76,11 +68,11 @@ fixed_day : (s : List ℕ) → day_of s ≡ number_day (fixed_digits_of 8 s)
 unfolding day_of fixed_digits_of
 fixed_day s = go (eqb (length s) 8) (digits_of s)
   where
-    go : (b : Bool) (n : Number) → cond b (number_day n) NotADate ≡ number_day (cond b n Other)
+    go : (b : Bool) (n : Option ℕ) → cond b (number_day n) None ≡ number_day (cond b n None)
     go true n = refl
     go false n = refl
 
-pub read_date : (day : ℕ) → day ≤ 36524 → day_of (date_digits day) ≡ At day
+pub read_date : (day : ℕ) → day ≤ 36524 → day_of (date_digits day) ≡ Some day
 unfolding date_digits date_number_of
 read_date day h =
     let a = date_after day in

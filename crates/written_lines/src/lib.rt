@@ -1,4 +1,5 @@
 // Lines that are written into a lent run, part by part: each function puts a part and the byte that ends it, and returns the place after both.
+// Each stores that byte itself: a function for these two lines, with its contract, would be longer.
 
 #![tactic(auto)]
 

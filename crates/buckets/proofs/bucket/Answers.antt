@@ -3,8 +3,7 @@
 use mathlib.Core.Path.{refl}
 use Prim.Native.Nat.{◌+◌, ◌*◌, ◌/◌, ◌%◌}
 use Rattle.buckets.specs.InsideBuckets.{bucket_of}
-use Rattle.buckets.proofs.Laws.{bucket_fits, bucket_below}
-use borrow.Author.Rules.{rules}
+use Rattle.buckets.proofs.Laws.{bucket_below}
 use native.Mathlib.Omega.{arith}
 use Rattle.buckets.proofs.bucket.Goals as goal
 

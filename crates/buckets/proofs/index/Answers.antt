@@ -1,8 +1,6 @@
 -- `buckets::index` meets its contract. The loop's invariant: the first i places are in the tree, and their first places in the column.
 -- Assumes nothing.
-use Prim.Native.Nat.{◌-◌}
-use Rattle.buckets.proofs.Trees.{first_no_later, Indexing, indexing_none, indexing_more, indexing_end}
-use borrow.Author.Rules.{rules}
+use Rattle.buckets.proofs.Trees.{first_no_later, indexing_more}
 use native.Mathlib.Omega.{arith}
 use Rattle.buckets.proofs.index.Goals as goal
 
@@ -11,4 +9,4 @@ overflow_cast-leaders c = omega (arith, first_no_later c.args.values.now c.loop-
 
 pub loop-i-preserved : goal.loop-i-preserved
 loop-i-preserved c =
-    indexing_more _ c.args.values.now _ _ c.loop-i-test.true _ c.put.auto.tree c.put.ensures c.requires.n_in_bounds.5 c.loop-i.invariant
+    indexing_more _ c.args.values.now _ _ c.loop-i-test.true _ c.put.auto.slots c.put.ensures c.requires.room.1 c.loop-i.invariant

@@ -1,10 +1,7 @@
 -- `buckets::search` meets its contract. The loop's invariant: the search has passed slots of other values; each step goes to a later place.
 -- Assumes nothing.
-use Prim.Native.Nat.{◌+◌, ◌-◌, ◌*◌, ◌%◌}
 use mathlib.Core.Path.{refl}
-use borrow.Author.Rules.{rules}
-use native.Mathlib.Omega.{arith}
-use Rattle.buckets.proofs.Trees.{Walked, distance, walk_start, walk_more, walk_closer, walk_found, walk_end}
+use Rattle.buckets.proofs.Trees.{walk_start, walk_more, walk_found, walk_end}
 use Rattle.buckets.proofs.search.Goals as goal
 
 pub loop-content-init : goal.loop-content-init

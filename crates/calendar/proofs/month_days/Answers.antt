@@ -5,7 +5,6 @@ use Rattle.calendar.specs.Calendar.{month_days}
 use mathlib.Core.Logic.{⊎_elim, inl, inr}
 use mathlib.Core.Path.{sym, ◌∙◌}
 use borrow.Author.Tests.{eq-eqb, ne_eqb}
-use borrow.Author.Rules.{rules}
 use Rattle.calendar.proofs.month_days.Goals as goal
 
 pub returns-then-leap : goal.returns-then-leap

@@ -1,16 +1,13 @@
 -- `codes_stand` meets its contract: the four codes are tried in turn, and the constants of the code are the numbers of their texts.
 -- Assumes nothing.
-use Rattle.codes_and_rows.proofs.CodeFields.{code_fields_small, either_asked, wrong_commodity, wrong_unit, wrong_cancel, last_code}
+use Rattle.codes_and_rows.proofs.CodeFields.{either_asked, wrong_commodity, wrong_unit, wrong_cancel, last_code}
 use Rattle.codes_and_rows.specs.InsideNumbers.{is_either, unit_of_number}
 use Rattle.readings.specs.InsideLeadingBytes.{packed, packed_after}
 use Rattle.format.specs.Format.{commodity_fields, unit_fields, cancel_fields, exemption_fields}
 use Rattle.lists.specs.Written.{written}
 use lib.ListN.{get_or}
-use mathlib.Core.Logic.{⊎_elim}
 use mathlib.Core.Path.{◌≡◌, refl, sym, ◌∙◌}
-use borrow.Author.Tests.{eq-eqb, ne_eqb, not-true, not-false}
-use borrow.Author.Rules.{rules}
-use native.Mathlib.Omega.{arith}
+use borrow.Author.Tests.{eq-eqb, ne_eqb}
 use Rattle.codes_and_rows.proofs.codes_stand.Goals.{else-commodity-eq-EL, then-commodity-eq-EL}
 use Rattle.codes_and_rows.proofs.codes_stand.Goals as goal
 

@@ -1,6 +1,5 @@
 -- `comparison::comparison_date` meets its contract: each test answers its number and leaves the bytes, and else `written_dates::write_date` writes the date.
 -- Assumes nothing.
-use borrow.Author.Rules.{rules}
 use borrow.Author.Tests.{le-leb, lt-leb, lt-ltb, le-ltb}
 use Rattle.comparison.specs.InsideDates.{date_number, date_after}
 use Rattle.comparison.proofs.comparison_date.Goals as goal

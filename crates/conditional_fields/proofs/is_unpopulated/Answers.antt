@@ -1,12 +1,10 @@
 -- `is_unpopulated` meets its contract: each arm asks what the test asks of a record of its type.
 -- Assumes nothing.
 use mathlib.Core.Path.{◌≡◌, sym, ◌∙◌}
-use mathlib.Core.Logic.{⊎_elim}
 use mathlib.Core.Bool.{Bool, true, false, cond}
 use Prim.Native.Nat.{◌≤◌}
 use native.Mathlib.Omega.{arith}
-use borrow.Author.Tests.{eq-eqb, ne_eqb, not-true, not-false}
-use borrow.Author.Rules.{rules}
+use borrow.Author.Tests.{eq-eqb, ne_eqb}
 use Rattle.readings.specs.InsideLeadingBytes.{packed_after}
 use Rattle.conditional_fields.proofs.Records.{unasked, as_empty, period_told, usage_told, demand_told, charge_told, other_told}
 use Rattle.conditional_fields.proofs.is_unpopulated.Goals.{else-energized, then-energized}

@@ -1,6 +1,5 @@
 -- `desk_answer::write_accepted` meets its contract: the line is written piece by piece, and no number has more than 20 digits.
 -- Assumes nothing.
-use borrow.Author.Rules.{rules}
 use native.Mathlib.Omega.{arith}
 use mathlib.Core.List.{[], ◌∷◌, ◌++◌}
 use mathlib.Core.Path.{refl, sym, ◌∙◌}

@@ -6,7 +6,6 @@ use Rattle.booking.specs.Booking.{Result, result_of}
 use Rattle.writing.specs.InsideWriting.{written_at}
 use Rattle.desk_answer.specs.Line.{line_of}
 use Rattle.desk_answer.proofs.Lines.{line_short}
-use borrow.Author.Rules.{rules}
 use native.Mathlib.Omega.{arith}
 use Rattle.desk_answer.proofs.write_answer.Goals as goal
 

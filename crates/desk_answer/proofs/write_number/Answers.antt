@@ -1,6 +1,5 @@
 -- `desk_answer::write_number` meets its contract: the digits are a piece, and the store is one byte more.
 -- Assumes nothing.
-use borrow.Author.Rules.{rules}
 use native.Mathlib.Omega.{arith}
 use mathlib.Core.List.{[], ◌∷◌}
 use mathlib.Core.Path.{sym, ◌∙◌}

@@ -1,26 +1,16 @@
 -- `digits::all_digits` meets its contract. The loop's invariant: the answer for the whole is the answer for what is left.
 -- Assumes nothing.
-use mathlib.Core.Path.{◌≡◌, refl, sym, ◌∙◌}
-use Rattle.digits.specs.Digits.{all_digits}
-use Rattle.digits.proofs.Laws.{digits_step, digits_low, digits_high, digits_end}
-use lib.ListN.{length, drop}
-use Prim.Native.Nat.{◌-◌, ◌≤◌}
-use borrow.Author.Rules.{rules}
-use native.Mathlib.Omega.{arith}
+use Rattle.std.proofs.Common.{true, false, sym, ◌∙◌, arith}
+use Rattle.digits.proofs.Laws.{digits_next, digits_end}
 use Rattle.digits.proofs.all_digits.Goals as goal
 
-pub returns-then-byte-lt48 : goal.returns-then-byte-lt48
-returns-then-byte-lt48 c =
-    sym (c.loop-i.invariant.1 ∙ digits_low _ c.loop-i.i (omega arith) c.if-byte-lt48.true)
+pub returns-then-not-is_ascii_digit : goal.returns-then-not-is_ascii_digit
+returns-then-not-is_ascii_digit c =
+    sym (c.loop-b.invariant ∙ digits_next c.args.s.now c.loop-b.b-index c.loop-b-test.true false (sym c.is_ascii_digit.ensures.value ∙ c.if-not-is_ascii_digit.true))
 
-pub returns-then-byte-gt57 : goal.returns-then-byte-gt57
-returns-then-byte-gt57 c =
-    sym (c.loop-i.invariant.1 ∙ digits_high _ c.loop-i.i (omega arith) c.if-byte-gt57.true)
-
-pub loop-i-preserved : goal.loop-i-preserved
-loop-i-preserved c =
-    (omega arith, c.loop-i.invariant.1 ∙ digits_step _ c.loop-i.i (omega arith) (omega arith) (omega arith))
+pub loop-b-preserved : goal.loop-b-preserved
+loop-b-preserved c =
+    c.loop-b.invariant ∙ digits_next c.args.s.now c.loop-b.b-index c.loop-b-test.true true (sym c.is_ascii_digit.ensures.value ∙ c.if-not-is_ascii_digit.false)
 
 pub returns : goal.returns
-returns c =
-    sym (c.loop-i.invariant.1 ∙ digits_end c.args.s.now c.loop-i.i (omega arith))
+returns c = sym (c.loop-b.invariant ∙ digits_end c.args.s.now c.loop-b.b-index (omega arith))

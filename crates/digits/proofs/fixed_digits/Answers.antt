@@ -2,7 +2,6 @@
 -- Assumes nothing.
 use borrow.Author.Tests.{eq-eqb, ne_eqb}
 use Rattle.digits.specs.Digits.{fixed_digits_of}
-use borrow.Author.Rules.{rules}
 use Rattle.digits.proofs.fixed_digits.Goals as goal
 
 pub returns-then-s-n : goal.returns-then-s-n

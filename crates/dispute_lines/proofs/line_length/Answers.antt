@@ -1,6 +1,5 @@
 -- `dispute_lines::line_length` meets its contract.
 -- Assumes nothing.
-use borrow.Author.Rules.{rules}
 use native.Mathlib.Omega.{arith}
 use Rattle.writing.proofs.Numbers.{count_few}
 use Rattle.dispute_lines.proofs.Lines.{dispute_length_lem}

@@ -1,6 +1,5 @@
 -- `dispute_lines::put_first_fields` meets its contract: six fields, put one after another.
 -- Assumes nothing.
-use borrow.Author.Rules.{rules}
 use native.Mathlib.Omega.{arith}
 use mathlib.Core.Path.{sym, ◌∙◌}
 use Rattle.writing.proofs.Numbers.{digits_in_length}

@@ -1,6 +1,5 @@
 -- `dispute_lines::write_dispute` meets its contract: the start of the line and the rest of it are the line.
 -- Assumes nothing.
-use borrow.Author.Rules.{rules}
 use native.Mathlib.Omega.{arith}
 use mathlib.Core.List.{List}
 use mathlib.Core.Path.{◌≡◌, sym, ◌∙◌, ap}

@@ -1,17 +1,20 @@
--- `dispute_reader::read_fields` meets its contract: all fields fit, or the line is refused.
+-- `dispute_reader::read_fields` meets its contract: all fields fit, or the first that doesn't ends it.
 -- Assumes nothing.
-use mathlib.Core.Path.{◌∙◌}
-use borrow.Author.Tests.{not-true, not-false}
+use mathlib.Core.Path.{sym, ◌∙◌, ap}
+use Rattle.fields.specs.declared.FieldType.TheVariants.{Number}
+use Rattle.fields.specs.Fields.{fits_type}
 use Rattle.dispute_reader.proofs.OneField.{code_same}
-use Rattle.dispute_reader.proofs.AllFields.{fields_missed, fields_told}
-use borrow.Author.Rules.{rules}
+use Rattle.dispute_reader.proofs.AllFields.{no_sender, no_subject, no_code, fields_read}
 use Rattle.dispute_reader.proofs.read_fields.Goals as goal
 
-pub returns-then-not-sender-subject : goal.returns-then-not-sender-subject
-returns-then-not-sender-subject c =
-    c.refusal.ensures
-    ∙ fields_missed _ _ _ _ c.read_sender-sender.ensures c.read_subject-subject.ensures (code_same c.field_among.ensures c.code_said-reason.ensures) (c.if-not-sender-subject.true)
+pub returns-in_err-sender : goal.returns-in_err-sender
+returns-in_err-sender c = rw c.from_residual.ensures (no_sender _ c.in_err-sender.ensures)
+
+pub returns-in_err-subject : goal.returns-in_err-subject
+returns-in_err-subject c = rw c.from_residual-in_err-subject.ensures (no_subject _ c.in_err-subject.ensures)
+
+pub returns-in_err-code : goal.returns-in_err-code
+returns-in_err-code c = rw c.from_residual-in_err-code.ensures (no_code _ (ap (fits_type (Number 4 0)) (sym c.field_among.ensures) ∙ c.in_err-code.ensures))
 
 pub returns : goal.returns
-returns c =
-    fields_told _ _ _ _ c.read_sender-sender.ensures c.read_subject-subject.ensures (code_same c.field_among.ensures c.code_said-reason.ensures) (c.if-not-sender-subject.false)
+returns c = fields_read _ _ _ _ c.in_ok-sender.ensures c.in_ok-subject.ensures (code_same c.field_among.ensures c.in_ok-code.ensures)

@@ -1,14 +1,13 @@
 -- `fields::is_date_time` meets its contract.
 -- Assumes nothing.
+use Rattle.std.proofs.Common.{sym, ◌∙◌}
 use Rattle.fields.specs.Fields.{fits_type}
-use borrow.Author.Tests.{eq-eqb, ne_eqb}
-use borrow.Author.Rules.{rules}
 use Rattle.fields.proofs.is_date_time.Goals as goal
 
-pub returns-then-s-eq0 : goal.returns-then-s-eq0
+pub returns-then-is_empty : goal.returns-then-is_empty
 unfolding fits_type
-returns-then-s-eq0 c = simp (eq-eqb _ _ c.if-s-eq0.true)
+returns-then-is_empty c = simp (sym c.is_empty.ensures ∙ c.if-is_empty.true)
 
 pub returns : goal.returns
 unfolding fits_type
-returns c = simp (ne_eqb _ _ c.if-s-eq0.false, ← c.read_date_time.ensures, ← c.is_moment.ensures)
+returns c = simp (sym c.is_empty.ensures ∙ c.if-is_empty.false, ← c.date_time_of.ensures) c.is_some.ensures

@@ -5,10 +5,8 @@ use lib.ListN.{length, get_or}
 use lib.Dec.{eqb}
 use borrow.Author.Tests.{eq-eqb, ne_eqb}
 use Prim.Native.Nat.{◌+◌}
-use mathlib.Core.Logic.{⊎_elim}
 use mathlib.Core.Bool.{not, false, ◌&&◌, and-false, or-true, or-false}
 use mathlib.Core.Path.{◌≡◌}
-use borrow.Author.Rules.{rules}
 use Rattle.format.proofs.is_misplaced.Goals.{else-i-types, then-i-types+else-present-ne-FT}
 use Rattle.format.proofs.is_misplaced.Goals as goal
 

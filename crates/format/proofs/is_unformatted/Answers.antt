@@ -3,7 +3,6 @@
 use Rattle.format.specs.Format.{unformatted}
 use borrow.Author.Tests.{le-leb, lt-leb}
 use mathlib.Core.Path.{sym, ◌∙◌}
-use borrow.Author.Rules.{rules}
 use Rattle.format.proofs.is_unformatted.Goals as goal
 
 pub returns-then-has_unprintable : goal.returns-then-has_unprintable

@@ -1,43 +1,43 @@
--- `ledger_tests::first_refusal` meets its contract: test 8, then those of the cancels, then those of what is to be stored.
+-- Answers to the goals of `ledger_tests::first_refusal`: test 8, then those of the cancels, then those of what is to be stored.
 -- Assumes nothing.
-use mathlib.Core.Path.{◌≡◌, sym, ap, ◌∙◌}
-use mathlib.Core.Bool.{false}
-use mathlib.Core.List.{List}
+use mathlib.Core.Path.{refl, sym, ◌∙◌}
 use Rattle.buckets.proofs.Laws.{zeros}
-use Rattle.buckets.proofs.ChainRoom.{chain_room}
-use Rattle.refusals.specs.declared.Outcome.{Outcome}
-use Rattle.bill_files.specs.Accepted.{BillFile}
-use Rattle.entries.specs.declared.Entry.{Entry}
-use Rattle.entries.specs.InsideWords.{entries_of}
-use Rattle.booking.specs.Booking.{has_file}
+use Rattle.std.proofs.lemmas.Result.{on_ok_weaker}
+use Rattle.refusals.proofs.Results.{refused, numbered}
 use Rattle.file_bills.specs.InsideBills.{file_in}
 use Rattle.ledger_tests.proofs.Order.{has_file_is, refused_file, refused_cancels, refused_storage}
-use borrow.Author.Rules.{rules}
-use native.Mathlib.Omega.{arith}
 use Rattle.ledger_tests.proofs.first_refusal.Goals as goal
 
-pub index_keys-requires : goal.index_keys-requires
-index_keys-requires c = record { room_for = (c.requires.room_for.0, chain_room 8192 c.args.used (omega arith) (omega arith) c.requires.room_for.1); by_index = zeros 8192 }
+pub index_keys-requires-clause-by_index : goal.index_keys-requires-clause-by_index
+index_keys-requires-clause-by_index c = zeros 8192
 
-pub returns-then-has_file : goal.returns-then-has_file
-returns-then-has_file c =
-    let ledger : List Entry = entries_of c.args.words.now c.args.amounts.now c.args.used in
-    let bill_file : BillFile = file_in c.args.file.now in
-    let test_8 : c.has_file.result ≡ has_file (ledger) (bill_file) = has_file_is (ledger) (bill_file) c.args.header c.has_file.result c.requires.header_value.0 c.has_file.ensures in
-    record { value = refused_file c.args.places (ledger) (bill_file) (sym (test_8) ∙ c.if-has_file.true) c.refused.ensures; named = λ e. absurd (omega (arith, sym e ∙ ap (λ (o : Outcome). o.number) c.refused.ensures)) }
+pub returns-then-has_file-clause-value : goal.returns-then-has_file-clause-value
+returns-then-has_file-clause-value c =
+    let file = file_in c.args.file.now in
+    refused_file c.args.places c.args.entries.now file (sym (has_file_is c.args.entries.now file c.args.header c.has_file.result c.requires.header_value.0 c.has_file.ensures) ∙ c.if-has_file.true)
+    c.refused.ensures
 
-pub returns-then-of_cancels-ne0 : goal.returns-then-of_cancels-ne0
-returns-then-of_cancels-ne0 c =
-    let ledger : List Entry = entries_of c.args.words.now c.args.amounts.now c.args.used in
-    let bill_file : BillFile = file_in c.args.file.now in
-    let test_8 : c.has_file.result ≡ has_file (ledger) (bill_file) = has_file_is (ledger) (bill_file) c.args.header c.has_file.result c.requires.header_value.0 c.has_file.ensures in
-    let past_8 : has_file (ledger) (bill_file) ≡ false = sym (test_8) ∙ c.if-has_file.false in
-    record { value = refused_cancels c.args.places (ledger) (bill_file) (past_8) c.cancels_refusal-of_cancels.ensures.value c.if-of_cancels-ne0.true; named = λ e. absurd (c.if-of_cancels-ne0.true e) }
+pub returns-in_err-cancels_refusal-clause-value : goal.returns-in_err-cancels_refusal-clause-value
+returns-in_err-cancels_refusal-clause-value c =
+    let file = file_in c.args.file.now in
+    let is = c.in_err-cancels_refusal.ensures in
+    refused c.from_residual.result _ c.from_residual.ensures.1
+    (record {
+      first =
+          refused_cancels c.args.places c.args.entries.now file
+          (sym (has_file_is c.args.entries.now file c.args.header c.has_file.result c.requires.header_value.0 c.has_file.ensures) ∙ c.if-has_file.false)
+          is.value is.numbered;
+    })
 
-pub returns : goal.returns
-returns c =
-    let ledger : List Entry = entries_of c.args.words.now c.args.amounts.now c.args.used in
-    let bill_file : BillFile = file_in c.args.file.now in
-    let test_8 : c.has_file.result ≡ has_file (ledger) (bill_file) = has_file_is (ledger) (bill_file) c.args.header c.has_file.result c.requires.header_value.0 c.has_file.ensures in
-    let past_8 : has_file (ledger) (bill_file) ≡ false = sym (test_8) ∙ c.if-has_file.false in
-    record { value = refused_storage c.args.places (ledger) (bill_file) (past_8) c.cancels_refusal-of_cancels.ensures.value c.if-of_cancels-ne0.false c.storage_refusal.ensures.value; named = λ e. (c.cancels_refusal-of_cancels.ensures.named c.if-of_cancels-ne0.false, c.storage_refusal.ensures.n_bound e) }
+pub returns-in_err-cancels_refusal-clause-numbered : goal.returns-in_err-cancels_refusal-clause-numbered
+returns-in_err-cancels_refusal-clause-numbered c = numbered c.from_residual.result _ c.from_residual.ensures.1 c.in_err-cancels_refusal.ensures.numbered
+
+pub returns-clause-value : goal.returns-clause-value
+returns-clause-value c =
+    let file = file_in c.args.file.now in
+    refused_storage c.args.places c.args.entries.now file
+    (sym (has_file_is c.args.entries.now file c.args.header c.has_file.result c.requires.header_value.0 c.has_file.ensures) ∙ c.if-has_file.false)
+    c.in_ok-cancels_refusal.ensures.value refl c.storage_refusal.ensures.value
+
+pub returns-clause-named : goal.returns-clause-named
+returns-clause-named c = on_ok_weaker c.storage_refusal.result (λ room. (c.in_ok-cancels_refusal.ensures.named, room)) c.storage_refusal.ensures.n_bound

@@ -1,7 +1,7 @@
--- `read_lines` meets its contract. The invariant of the loop over the lines: those before `read.stopped` are read, and stand in the columns.
+-- `read_lines` meets its contract. The invariant of the loop over the lines: those before line i are read, and stand in the columns.
 -- That of the loop over a line's fields: those before k are read, and the others stand from a on. Each `break` is at a line that fails test 2 or 3.
 -- Assumes nothing.
-use Prim.Native.Nat.{◌-◌, ◌≤◌}
+use mathlib.Core.Path.{◌≡◌}
 use Rattle.columns.proofs.Rows.{Reading}
 use Rattle.records.specs.Text.{lines_of}
 use Rattle.records.specs.InsidePlacedLines.{part}
@@ -10,13 +10,7 @@ use Rattle.line_reader.proofs.FieldLoop.{Kept, FieldsTo}
 use Rattle.line_reader.proofs.read_lines.Given as goal
 
 abbrev pub invariant-loop-k : goal.invariant-loop-k
-invariant-loop-k l = (3 ≤ l.k) × (l.k ≤ l.count) × FieldsTo l.file (part l.file l.start l.e) l.record_type l.k l.a l.e l.filled l.numbers l.record.starts l.record.ends
-
-abbrev pub decreases-loop-k : goal.decreases-loop-k
-decreases-loop-k l = l.count - l.k
+invariant-loop-k l = FieldsTo l.lines.bytes.now (part l.lines.bytes.now l.start l.e) l.record_type l.k l.a l.e l.filled l.numbers l.record.starts l.record.ends
 
 abbrev pub invariant-records : goal.invariant-records
-invariant-records l = (l.read.stopped ≤ l.n) × LinesTo (lines_of l.file) l.n l.read × Reading (lines_of l.file) l.initial.charges l.initial.usages l.read.stopped l.words l.charges l.usages × Kept l.numbers l.record.starts l.record.ends
-
-abbrev pub decreases-records : goal.decreases-records
-decreases-records l = l.n - l.read.stopped
+invariant-records l = (l.read.stopped ≡ l.i) × LinesTo (lines_of l.lines.bytes.now) l.lines.n l.read × Reading (lines_of l.lines.bytes.now) l.initial.charges l.initial.usages l.i l.words l.charges l.usages × Kept l.numbers l.record.starts l.record.ends

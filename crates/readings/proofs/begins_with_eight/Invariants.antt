@@ -1,10 +1,7 @@
 -- `readings::begins_with_eight` meets its contract. The loop's invariant: where the answer is still yes, the bytes so far are digits.
 -- Assumes nothing.
-use Rattle.std.proofs.Common.{◌≡◌, ℕ, ◌+◌, ◌-◌, ◌<◌, ◌≤◌, true, false, get_or, sym, ◌∙◌, ⊎_elim, arith, rules, below_more}
+use Rattle.std.proofs.Common.{◌≡◌, ℕ, ◌<◌, ◌≤◌, true, get_or}
 use Rattle.readings.proofs.begins_with_eight.Given as goal
 
 abbrev pub invariant-loop-i : goal.invariant-loop-i
-invariant-loop-i l = (l.i ≤ 8) × (l.all ≡ true → (k : ℕ) → k < l.i → (48 ≤ get_or l.s k 0) × (get_or l.s k 0 ≤ 57))
-
-abbrev pub decreases-loop-i : goal.decreases-loop-i
-decreases-loop-i l = 8 - l.i
+invariant-loop-i l = l.all ≡ true → (k : ℕ) → k < l.i → (48 ≤ get_or l.s k 0) × (get_or l.s k 0 ≤ 57)

@@ -1,39 +1,20 @@
 -- `readings::date_of` meets its contract: an ID of eight digits is a date where the calendar has its number, and an empty field stays one.
 -- Assumes nothing.
-use borrow.Author.Tests.{not-false, not-true}
-use Rattle.std.proofs.Common.{◌≡◌, ℕ, ◌-◌, ◌/◌, ◌%◌, true, false, sym, ◌∙◌, arith, rules}
+use Rattle.std.proofs.Common.{◌-◌, ◌/◌, ◌%◌, sym, ◌∙◌, refl, arith}
 use Rattle.calendar.proofs.Dates.{date_bound}
-use Rattle.readings.proofs.Ids.{date_not, date_empty, date_read, date_missed}
+use Rattle.readings.proofs.Ids.{date_empty, date_read, date_missed}
 use Rattle.readings.proofs.date_of.Goals as goal
 
-pub returns-then-not-fits : goal.returns-then-not-fits
-returns-then-not-fits c = λ s told. (
-  λ e. let two : true ≡ false = sym e ∙ c.if-not-fits.true in let z : ◌≡◌ {A = ℕ} 0 1 = cc in absurd (omega arith),
-  λ e. date_not s (told.1 e),
-)
+pub returns-then-id-eq0 : goal.returns-then-id-eq0
+returns-then-id-eq0 c = λ s read. date_empty s c.args.id read c.if-id-eq0.true
 
-pub returns-then-number-eq0 : goal.returns-then-number-eq0
-returns-then-number-eq0 c = λ s told. (λ e. date_empty s c.args.id (told.0 e) c.if-number-eq0.true, λ e. date_not s (told.1 e))
+pub returns-in_err-day : goal.returns-in_err-day
+returns-in_err-day c = λ s read. rw c.from_residual.ensures (date_missed s c.args.id read c.if-id-eq0.false (sym c.date_day.ensures ∙ c.in_err-day.was))
 
-pub overflow_add-day : goal.overflow_add-day
-overflow_add-day c =
+pub overflow_add-result : goal.overflow_add-result
+overflow_add-result c =
     let n = c.args.id.number - 1 in
-    record { fits = omega (arith, date_bound (n / 10000) (n / 100 % 100) (n % 100) c.in-At.day (sym c.date_day.ensures ∙ c.in-At.is)) }
+    record { fits = omega (arith, date_bound (n / 10000) (n / 100 % 100) (n % 100) c.in_ok-day.day (sym c.date_day.ensures ∙ c.in_ok-day.was)) }
 
-pub returns-in-At : goal.returns-in-At
-returns-in-At c =
-    λ s told. (
-      λ e.
-          date_read s c.args.id (told.0 (c.if-not-fits.false)) c.if-number-eq0.false c.reads.result c.in-At.day
-          (sym c.date_day.ensures ∙ c.in-At.is) c.reads.ensures.1 c.reads.ensures.2,
-      λ e. let z : ◌≡◌ {A = ℕ} 0 1 = cc in absurd (omega arith),
-    )
-
-pub returns-in-NotADate : goal.returns-in-NotADate
-returns-in-NotADate c =
-    λ s told. (
-      λ e. let z : ◌≡◌ {A = ℕ} 0 1 = cc in absurd (omega arith),
-      λ e.
-          date_missed s c.args.id (told.0 (c.if-not-fits.false)) c.if-number-eq0.false
-          (sym c.date_day.ensures ∙ c.in-NotADate.is),
-    )
+pub returns : goal.returns
+returns c = λ s read. date_read s c.args.id read c.if-id-eq0.false _ c.in_ok-day.day (sym c.date_day.ensures ∙ c.in_ok-day.was) refl refl

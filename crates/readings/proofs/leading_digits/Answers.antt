@@ -1,7 +1,6 @@
 -- `readings::leading_digits` meets its contract: none are read to begin with.
 -- Assumes nothing.
 use Rattle.readings.proofs.Runs.{no_run}
-use Rattle.std.proofs.Common.{rules}
 use Rattle.readings.proofs.leading_digits.Goals as goal
 
 pub more_digits-requires : goal.more_digits-requires

@@ -1,7 +1,7 @@
 -- `readings::read_field` meets its contract: each arm reads the type that the code stands for.
 -- Assumes nothing.
 use Rattle.tables.specs.InsideCodes.{type_of_code}
-use Rattle.std.proofs.Common.{◌-◌, ◌/◌, ◌%◌, leb, inl, inr, ⊎_elim, rules, ne_eqb, leb-true}
+use Rattle.std.proofs.Common.{◌-◌, ◌/◌, ◌%◌, leb, inl, inr, ⊎_elim, ne_eqb, leb-true}
 use Rattle.digits.proofs.Laws.{both_true}
 use Rattle.readings.specs.InsideReadings.{is_narrow}
 use Rattle.readings.proofs.read_field.Goals as goal
@@ -9,13 +9,13 @@ use Rattle.readings.proofs.read_field.Goals as goal
 pub read_number-requires : goal.read_number-requires
 unfolding is_narrow type_of_code
 read_number-requires c =
-    let narrow = both_true (leb (c.args.code / 256 % 256 - c.args.code % 256) 15) (leb (c.args.code % 256) 15) (rw c.in-2.is at c.requires.1) in
+    let narrow = both_true (leb (c.args.code / 256 % 256 - c.args.code % 256) 15) (leb (c.args.code % 256) 15) (rw c.in-2.is at c.requires) in
     (leb-true _ 15 narrow.0, leb-true _ 15 narrow.1)
 
 pub read_char-requires : goal.read_char-requires
 unfolding is_narrow type_of_code
 read_char-requires c =
-    leb-true (c.args.code / 256 % 256) 4 (rw c.in-5.is at c.requires.1)
+    leb-true (c.args.code / 256 % 256) 4 (rw c.in-5.is at c.requires)
 
 pub returns-in-1 : goal.returns-in-1
 unfolding type_of_code

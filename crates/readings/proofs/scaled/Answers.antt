@@ -1,6 +1,6 @@
 -- `readings::scaled` meets its contract: where the digits are at most 15, the two products and their sum are below a power of ten, so none wraps.
 -- Assumes nothing.
-use Rattle.std.proofs.Common.{◌+◌, ◌*◌, ◌^◌, ◌<◌, arith, rules}
+use Rattle.std.proofs.Common.{◌+◌, ◌*◌, ◌^◌, ◌<◌, arith}
 use Rattle.amounts.proofs.Powers.{shift, join, whole_alone}
 use Rattle.digits.proofs.Laws.{ten_room}
 use Rattle.readings.proofs.scaled.Goals as goal

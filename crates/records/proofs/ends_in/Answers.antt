@@ -1,12 +1,6 @@
 -- `records::ends_in` meets its contract. The loop's invariant: the bytes 10 of the whole are those counted and those of the bytes that are left.
 -- Assumes nothing.
-use Rattle.records.specs.InsideLineEnds.{line_ends}
 use Rattle.records.proofs.LineEnds.{ends_none, ends_more, ends_kept, ends_few}
-use lib.ListN.{length, drop}
-use Prim.Native.Nat.{◌+◌, ◌-◌}
-use mathlib.Core.Logic.{⊎_elim}
-use mathlib.Core.Path.{◌≡◌}
-use borrow.Author.Rules.{rules}
 use native.Mathlib.Omega.{arith}
 use Rattle.records.proofs.ends_in.Goals.{else-s-i-eq10, then-s-i-eq10}
 use Rattle.records.proofs.ends_in.Goals as goal

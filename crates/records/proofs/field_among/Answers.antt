@@ -3,7 +3,6 @@
 use Rattle.records.proofs.Laws.{place_among}
 use Rattle.records.specs.InsidePlacedFields.{field_among, fields_at}
 use Rattle.records.specs.InsidePlacedLines.{At}
-use borrow.Author.Rules.{rules}
 use Rattle.records.proofs.field_among.Goals as goal
 
 pub slice_bounds-result-count : goal.slice_bounds-result-count

@@ -1,7 +1,6 @@
 -- `field_at` meets its contract: the record's places are those of its fields.
 -- Assumes nothing.
 use Rattle.records.proofs.Laws.{among_is, place_among}
-use borrow.Author.Rules.{rules}
 use Rattle.records.proofs.field_at.Goals as goal
 
 pub returns : goal.returns

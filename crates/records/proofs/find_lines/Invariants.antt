@@ -1,17 +1,10 @@
 -- `records::find_lines` meets its contract. The loop's invariant: the lines so far have their places, and the rest are those of the bytes that are left.
 -- Assumes nothing.
-use Rattle.records.proofs.Placed.{Going, going_none, going_more, going_end, going_count}
-use Rattle.records.proofs.Cut.{lines_step, lines_some, lines_none}
+use Rattle.records.proofs.Placed.{Going}
 use Rattle.records.specs.Text.{lines_of}
-use Rattle.lists.proofs.Parts.{part_rest}
-use Rattle.lists.proofs.First.{first_le}
-use Rattle.lists.specs.First.{first_where, is_byte}
-use lib.ListN.{length, drop, length-set, length-drop, drop_of_length-le}
-use Prim.Native.Nat.{ℕ, ◌+◌, ◌-◌, ◌≤◌, ◌<◌}
-use mathlib.Core.Logic.{inl, inr}
-use mathlib.Core.Path.{◌≡◌, refl, ap}
-use borrow.Author.Rules.{rules}
-use native.Mathlib.Omega.{arith}
+use lib.ListN.{length, drop}
+use Prim.Native.Nat.{◌-◌}
+use mathlib.Core.Path.{◌≡◌}
 use Rattle.records.proofs.find_lines.Given as goal
 
 abbrev pub invariant-loop-a : goal.invariant-loop-a

@@ -3,7 +3,6 @@
 use Rattle.records.proofs.Laws.{number_none, number_there}
 use mathlib.Core.Logic.{inl, inr}
 use mathlib.Core.Path.{sym}
-use borrow.Author.Rules.{rules}
 use Rattle.records.proofs.place_among.Goals as goal
 
 pub returns-then-k-eq0 : goal.returns-then-k-eq0

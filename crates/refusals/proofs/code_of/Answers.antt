@@ -1,7 +1,6 @@
 -- `refusals::code_of` meets its contract: the table of the code computes to the entries that the definition gives the numbers 0 to 40,
 -- and a number above 40 has no code.
 -- Assumes nothing.
-use borrow.Author.Rules.{rules}
 use native.Mathlib.Omega.{arith}
 use mathlib.Core.Path.{sym}
 use Rattle.lists.specs.InsideTabulate.{tabulate}

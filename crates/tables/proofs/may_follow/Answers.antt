@@ -3,7 +3,6 @@
 use Rattle.tables.specs.Types.{may_follow}
 use mathlib.Core.Bool.{and-false}
 use borrow.Author.Tests.{lt-ltb, le-ltb}
-use borrow.Author.Rules.{rules}
 use Rattle.tables.proofs.may_follow.Goals as goal
 
 pub returns-then-previous-ge9 : goal.returns-then-previous-ge9
@@ -16,4 +15,4 @@ returns-then-present-ge9 c = simp (le-ltb _ _ c.if-present-ge9.true, and-false)
 
 pub returns : goal.returns
 unfolding may_follow
-returns c = simp (lt-ltb _ _ c.if-previous-ge9.false, lt-ltb _ _ c.if-present-ge9.false, c.requires)
+returns c = simp (lt-ltb _ _ c.if-previous-ge9.false, lt-ltb _ _ c.if-present-ge9.false, c.follow_table.ensures)

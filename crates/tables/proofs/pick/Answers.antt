@@ -1,10 +1,8 @@
 -- `tables::pick` meets its contract. The loop's invariant: the front of `out` holds the value picked for each record passed.
 -- Assumes nothing.
 use Rattle.tables.specs.Groups.{picked, picked_at}
-use Rattle.tables.proofs.RecordTypes.{Tabling, tabling_none, tabling_more, tabling_end}
-use mathlib.Core.Path.{◌≡◌}
+use Rattle.tables.proofs.RecordTypes.{tabling_none, tabling_more, tabling_end}
 use lib.ListN.{length}
-use Prim.Native.Nat.{◌-◌, ◌≤◌}
 use borrow.Author.Rules.{rules}
 use native.Mathlib.Omega.{arith}
 use Rattle.tables.proofs.pick.Goals as goal

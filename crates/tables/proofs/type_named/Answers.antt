@@ -7,8 +7,6 @@ use borrow.Author.Tests.{eq-eqb, ne_eqb}
 use mathlib.Core.List.{List}
 use mathlib.Core.Path.{◌≡◌, refl, sym, ◌∙◌, ap}
 use Prim.Native.Nat.{ℕ, ◌+◌, ◌*◌}
-use borrow.Author.Rules.{rules}
-use native.Mathlib.Omega.{arith}
 use Rattle.tables.proofs.type_named.Goals as goal
 
 -- the type of two letters that are the number n
@@ -39,59 +37,59 @@ returns-then-s-ne2 c = simp (ne_eqb _ _ c.if-s-ne2.true)
 pub returns-in-17992 : goal.returns-in-17992
 unfolding first_where
 returns-in-17992 c =
-    let named_here : (n : ℕ) → c.wide.result * 256 + c.wide-2.result ≡ n → first_where (is_byte n) type_letters ≡ type_named c.args.s.now = λ n e. named c.args.s.now n c.if-s-ne2.false (rw (c.wide.ensures, c.wide-2.ensures) at e) in
+    let named_here : (n : ℕ) → c.from.result * 256 + c.from-2.result ≡ n → first_where (is_byte n) type_letters ≡ type_named c.args.s.now = λ n e. named c.args.s.now n c.if-s-ne2.false (rw (c.from.ensures, c.from-2.ensures) at e) in
     named_here 17992 c.in-17992.is
 
 pub returns-in-21320 : goal.returns-in-21320
 unfolding first_where
 returns-in-21320 c =
-    let named_here : (n : ℕ) → c.wide.result * 256 + c.wide-2.result ≡ n → first_where (is_byte n) type_letters ≡ type_named c.args.s.now = λ n e. named c.args.s.now n c.if-s-ne2.false (rw (c.wide.ensures, c.wide-2.ensures) at e) in
+    let named_here : (n : ℕ) → c.from.result * 256 + c.from-2.result ≡ n → first_where (is_byte n) type_letters ≡ type_named c.args.s.now = λ n e. named c.args.s.now n c.if-s-ne2.false (rw (c.from.ensures, c.from-2.ensures) at e) in
     named_here 21320 c.in-21320.is
 
 pub returns-in-21576 : goal.returns-in-21576
 unfolding first_where
 returns-in-21576 c =
-    let named_here : (n : ℕ) → c.wide.result * 256 + c.wide-2.result ≡ n → first_where (is_byte n) type_letters ≡ type_named c.args.s.now = λ n e. named c.args.s.now n c.if-s-ne2.false (rw (c.wide.ensures, c.wide-2.ensures) at e) in
+    let named_here : (n : ℕ) → c.from.result * 256 + c.from-2.result ≡ n → first_where (is_byte n) type_letters ≡ type_named c.args.s.now = λ n e. named c.args.s.now n c.if-s-ne2.false (rw (c.from.ensures, c.from-2.ensures) at e) in
     named_here 21576 c.in-21576.is
 
 pub returns-in-17493 : goal.returns-in-17493
 unfolding first_where
 returns-in-17493 c =
-    let named_here : (n : ℕ) → c.wide.result * 256 + c.wide-2.result ≡ n → first_where (is_byte n) type_letters ≡ type_named c.args.s.now = λ n e. named c.args.s.now n c.if-s-ne2.false (rw (c.wide.ensures, c.wide-2.ensures) at e) in
+    let named_here : (n : ℕ) → c.from.result * 256 + c.from-2.result ≡ n → first_where (is_byte n) type_letters ≡ type_named c.args.s.now = λ n e. named c.args.s.now n c.if-s-ne2.false (rw (c.from.ensures, c.from-2.ensures) at e) in
     named_here 17493 c.in-17493.is
 
 pub returns-in-17476 : goal.returns-in-17476
 unfolding first_where
 returns-in-17476 c =
-    let named_here : (n : ℕ) → c.wide.result * 256 + c.wide-2.result ≡ n → first_where (is_byte n) type_letters ≡ type_named c.args.s.now = λ n e. named c.args.s.now n c.if-s-ne2.false (rw (c.wide.ensures, c.wide-2.ensures) at e) in
+    let named_here : (n : ℕ) → c.from.result * 256 + c.from-2.result ≡ n → first_where (is_byte n) type_letters ≡ type_named c.args.s.now = λ n e. named c.args.s.now n c.if-s-ne2.false (rw (c.from.ensures, c.from-2.ensures) at e) in
     named_here 17476 c.in-17476.is
 
 pub returns-in-17485 : goal.returns-in-17485
 unfolding first_where
 returns-in-17485 c =
-    let named_here : (n : ℕ) → c.wide.result * 256 + c.wide-2.result ≡ n → first_where (is_byte n) type_letters ≡ type_named c.args.s.now = λ n e. named c.args.s.now n c.if-s-ne2.false (rw (c.wide.ensures, c.wide-2.ensures) at e) in
+    let named_here : (n : ℕ) → c.from.result * 256 + c.from-2.result ≡ n → first_where (is_byte n) type_letters ≡ type_named c.args.s.now = λ n e. named c.args.s.now n c.if-s-ne2.false (rw (c.from.ensures, c.from-2.ensures) at e) in
     named_here 17485 c.in-17485.is
 
 pub returns-in-17224 : goal.returns-in-17224
 unfolding first_where
 returns-in-17224 c =
-    let named_here : (n : ℕ) → c.wide.result * 256 + c.wide-2.result ≡ n → first_where (is_byte n) type_letters ≡ type_named c.args.s.now = λ n e. named c.args.s.now n c.if-s-ne2.false (rw (c.wide.ensures, c.wide-2.ensures) at e) in
+    let named_here : (n : ℕ) → c.from.result * 256 + c.from-2.result ≡ n → first_where (is_byte n) type_letters ≡ type_named c.args.s.now = λ n e. named c.args.s.now n c.if-s-ne2.false (rw (c.from.ensures, c.from-2.ensures) at e) in
     named_here 17224 c.in-17224.is
 
 pub returns-in-20291 : goal.returns-in-20291
 unfolding first_where
 returns-in-20291 c =
-    let named_here : (n : ℕ) → c.wide.result * 256 + c.wide-2.result ≡ n → first_where (is_byte n) type_letters ≡ type_named c.args.s.now = λ n e. named c.args.s.now n c.if-s-ne2.false (rw (c.wide.ensures, c.wide-2.ensures) at e) in
+    let named_here : (n : ℕ) → c.from.result * 256 + c.from-2.result ≡ n → first_where (is_byte n) type_letters ≡ type_named c.args.s.now = λ n e. named c.args.s.now n c.if-s-ne2.false (rw (c.from.ensures, c.from-2.ensures) at e) in
     named_here 20291 c.in-20291.is
 
 pub returns-in-18004 : goal.returns-in-18004
 unfolding first_where
 returns-in-18004 c =
-    let named_here : (n : ℕ) → c.wide.result * 256 + c.wide-2.result ≡ n → first_where (is_byte n) type_letters ≡ type_named c.args.s.now = λ n e. named c.args.s.now n c.if-s-ne2.false (rw (c.wide.ensures, c.wide-2.ensures) at e) in
+    let named_here : (n : ℕ) → c.from.result * 256 + c.from-2.result ≡ n → first_where (is_byte n) type_letters ≡ type_named c.args.s.now = λ n e. named c.args.s.now n c.if-s-ne2.false (rw (c.from.ensures, c.from-2.ensures) at e) in
     named_here 18004 c.in-18004.is
 
 pub returns-in_default : goal.returns-in_default
 returns-in_default c =
-    let named_here : (n : ℕ) → c.wide.result * 256 + c.wide-2.result ≡ n → first_where (is_byte n) type_letters ≡ type_named c.args.s.now = λ n e. named c.args.s.now n c.if-s-ne2.false (rw (c.wide.ensures, c.wide-2.ensures) at e) in
-    let n = c.wide.result * 256 + c.wide-2.result in
+    let named_here : (n : ℕ) → c.from.result * 256 + c.from-2.result ≡ n → first_where (is_byte n) type_letters ≡ type_named c.args.s.now = λ n e. named c.args.s.now n c.if-s-ne2.false (rw (c.from.ensures, c.from-2.ensures) at e) in
+    let n = c.from.result * 256 + c.from-2.result in
     sym (unnamed n c.in_default.in_default-own.rest.0.0.0.0.0.0.0.0.1 c.in_default.in_default-own.rest.0.0.0.0.0.0.0.1 c.in_default.in_default-own.rest.0.0.0.0.0.0.1 c.in_default.in_default-own.rest.0.0.0.0.0.1 c.in_default.in_default-own.rest.0.0.0.0.1 c.in_default.in_default-own.rest.0.0.0.1 c.in_default.in_default-own.rest.0.0.1 c.in_default.in_default-own.rest.0.1 c.in_default.in_default-own.rest.1) ∙ named_here n refl

@@ -1,6 +1,5 @@
 -- `writing::write_plain` meets its contract: as many digits as n has are all of them.
 -- Assumes nothing.
-use borrow.Author.Rules.{rules}
 use native.Mathlib.Omega.{arith}
 use mathlib.Core.List.{List}
 use mathlib.Core.Path.{◌≡◌, ◌∙◌, ap}

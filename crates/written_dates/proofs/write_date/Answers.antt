@@ -1,6 +1,5 @@
 -- `written_dates::write_date` meets its contract: it writes the eight digits of the number that `date_number` makes.
 -- Assumes nothing.
-use borrow.Author.Rules.{rules}
 use mathlib.Core.Path.{◌≡◌, ◌∙◌, ap}
 use mathlib.Core.List.{List}
 use Prim.Native.Nat.{ℕ}

@@ -1,6 +1,5 @@
 -- `written_lines::put_bytes` meets its contract: the bytes are written, and the byte that ends them is stored after them.
 -- Assumes nothing.
-use borrow.Author.Rules.{rules}
 use native.Mathlib.Omega.{arith}
 use mathlib.Core.Path.{refl}
 use Rattle.written_lines.proofs.Puts.{put_of}

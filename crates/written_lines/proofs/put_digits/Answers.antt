@@ -1,6 +1,5 @@
 -- `written_lines::put_digits` meets its contract: the digits are written, and the byte that ends them is stored after them.
 -- Assumes nothing.
-use borrow.Author.Rules.{rules}
 use native.Mathlib.Omega.{arith}
 use Prim.Native.Nat.{◌+◌}
 use Rattle.writing.proofs.Numbers.{digits_in_length}

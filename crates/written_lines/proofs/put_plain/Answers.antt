@@ -1,6 +1,5 @@
 -- `written_lines::put_plain` meets its contract: the digits are written, and the byte that ends them is stored after them.
 -- Assumes nothing.
-use borrow.Author.Rules.{rules}
 use native.Mathlib.Omega.{arith}
 use Rattle.writing.specs.Decimals.{plain_digits}
 use Rattle.written_lines.proofs.Puts.{put_of}
