@@ -26,8 +26,8 @@ pub struct Spot {
     pub content: usize,
 }
 
-// Searches for a value in a tree of the first m places. m is no ghost value, since a caller would pick that from the other arguments alone. A `while`: it walks from
-// slot to slot, and an iterator would need a law and an invariant of its own.
+// Searches for a value in a tree of the first m places. m is an argument, since a proof could not
+// tell it from the others. A `while`: it walks from slot to slot, and an iterator would need a law and an invariant of its own.
 fn search(values: &[u64], m: usize, size: usize, slots: &[u16], value: u64) -> Spot
     requires room { TreeRoom size m (length slots.now) × (m ≤ length values.now) }
     requires indexed { Indexed size values.now m slots.now }

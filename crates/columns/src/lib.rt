@@ -1,4 +1,4 @@
-// Columns: the numbers and amounts of each record. Which field each of them holds, and the column of a run of words.
+// Columns: the numbers and amounts of each record. Which field each of them holds, and one column of all.
 
 #![tactic(auto)]
 

@@ -71,12 +71,11 @@ fn some_empty<'a>(
     requires { after + count ≤ 24 }
     ensures { result ≡ some_below (λ j. eqb (get_or starts.now (after + j) 0) (get_or ends.now (after + j) 0)) count }
 {
-    for j in 0..count {
-        if starts[after + j] == ends[after + j] {
-            return true;
-        }
-    }
-    false
+    let end = after + count;
+    starts[after..end]
+        .iter()
+        .zip(&ends[after..end])
+        .any(|(a, b)| a == b)
 }
 
 // Whether a record of a type lacks a field that one of its conditions asks for. Its fields say the numbers, and stand at starts and ends; `energized` is whether

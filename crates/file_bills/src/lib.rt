@@ -42,7 +42,7 @@ pub struct SourceBill {
     pub line: usize,
 }
 
-// None: what a place for a TH or OC holds before one is read into it.
+// What a place for a TH or OC holds before one is read into it.
 pub fn blank_source() -> SourceBill
     ensures { result ≡ blank_source }
 {

@@ -1,23 +1,13 @@
--- A loop that asks whether a test finds something below n, and stands at place i.
---     some_here    it holds at i
---     some_end     no place is left
 -- A loop that passes all places, and keeps whether the test has kept.
 --     some_start, some_now, some_kept    before the first place; the test holds at i; it doesn't
 -- Assumes nothing.
 use mathlib.Core.Path.{◌≡◌, refl, sym, ◌∙◌}
 use mathlib.Core.Bool.{Bool, true, false}
-use Prim.Native.Nat.{ℕ, ◌+◌, ◌≤◌, ◌<◌}
+use Prim.Native.Nat.{ℕ, ◌+◌}
 use native.Mathlib.Omega.{arith}
 use borrow.Author.Count.{below_more}
 use Rattle.lists.specs.Below.{some_below}
-use Rattle.lists.proofs.Below.{Searched, searched_here, searched_end, some_holds, some_none, some_is, none_some, found_some, found_none}
-
-module _ (f : ℕ → Bool) (n i : ℕ) (p : Searched f n i) where
-  pub some_here : i < n → f i ≡ true → some_below f n ≡ true
-  some_here h e = found_some f n i h (searched_here f n i h p e)
-
-  pub some_end : n ≤ i → some_below f n ≡ false
-  some_end h = found_none f n i h (searched_end f n i h p)
+use Rattle.lists.proofs.Below.{some_holds, some_none, some_is, none_some}
 
 module _ (f : ℕ → Bool) where
   pub some_start : false ≡ some_below f 0

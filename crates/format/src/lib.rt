@@ -11,16 +11,7 @@ ghost use Rattle.format.specs.Format.{is_printable, unformatted, misplaced, firs
 fn has_unprintable_byte(s: &[u8]) -> bool
     ensures { result ≡ some_below (λ i. not (is_printable (get_or s.now i 0))) (length s.now) }
 {
-    for i in 0..s.len() {
-        let b = s[i];
-        if b < 32 {
-            return true;
-        }
-        if 126 < b {
-            return true;
-        }
-    }
-    false
+    s.iter().any(|&b| b < 32 || 126 < b)
 }
 
 // Whether a byte of a block of 32 is not 32 to 126. There is no early exit, so that many bytes are compared at once.
@@ -92,7 +83,7 @@ fn is_misplaced(types: &[u64], i: usize) -> bool
     !tables::may_follow(types[i - 1], present)
 }
 
-// Test 4.
+// Test 4. A loop: the test of a place reads the type before it and the number of types, so `position` would go over places alike, and is no plainer.
 pub fn first_misplaced(types: &[u64]) -> usize
     ensures { result ≡ first_misplaced types.now }
 {

@@ -1,3 +1,4 @@
+pub mod Chunks
 pub mod Laws
 pub mod Meaning
 pub mod Said

@@ -24,14 +24,9 @@ pub fn is_ours(said: u64, retailer: u64) -> bool
 fn is_among(distributors: &[u8], sender: u64) -> bool
     ensures { result ≡ some_below (is_sender distributors.now sender) (length distributors.now / 4) }
 {
-    for g in 0..distributors.len() / 4 {
-        let start = 4 * g;
-        let end = start + 4;
-        if digits::fixed_digits(&distributors[start..end], 4) == Some(sender) {
-            return true;
-        }
-    }
-    false
+    distributors
+        .chunks_exact(4)
+        .any(|group| digits::fixed_digits(group, 4) == Some(sender))
 }
 
 // Test 12: whether the sender that the header says is one of the distributors' groups of four digits.

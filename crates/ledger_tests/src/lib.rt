@@ -45,6 +45,7 @@ fn name_cancel(
 }
 
 // Test 39: the first Y record that names no entry, or the number of records; then `named` has the place of the entry that each Y record names.
+// A loop: each cancel marks the entry that it names, and those after it read the marks.
 pub fn name_cancels(
     chains: &KeyChains,
     file: &[u8],

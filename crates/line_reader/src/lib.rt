@@ -200,7 +200,7 @@ fn read_next(code: usize, file: &[u8], a: usize, e: usize) -> Option<Reading>
     readings::read_field(code, &file[a..e])
 }
 
-// Reads each of a file's lines, into the columns, up to the first that fails test 2 or 3; read.stopped is the line that is read next.
+// Reads each of a file's lines, into the columns, up to the first that fails test 2 or 3: `stopped` of the answer.
 pub fn read_lines(
     lines: &FoundLines,
     words: &mut [u64],

@@ -69,7 +69,7 @@ pub fn first_so_far(holds: bool, first: usize, n: usize, i: usize) -> usize
     n
 }
 
-// Whether two runs of bytes are the same: the library's `==`, said in the definitions' word.
+// Whether two runs of bytes are the same: the library's `==`, as `same_bytes` of the definitions.
 pub fn same_bytes(s: &[u8], t: &[u8]) -> bool
     ensures { result ≡ same_bytes s.now t.now }
 {

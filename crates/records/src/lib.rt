@@ -73,7 +73,7 @@ fn ends_in(s: &[u8]) -> u8
 }
 
 // How many bytes 10 a file has: it has at most one line more. They are counted in blocks, of each of which 8 bits hold the count.
-// Nothing calls it since Book reads a run where it stands: it stays for the promise that its must-fail edit breaks.
+// No function of this repository calls it; its promise and the must-fail edit of it stand.
 pub fn line_ends(file: &[u8]) -> usize
     ensures { result ≡ line_ends file.now }
 {

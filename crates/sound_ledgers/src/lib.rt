@@ -144,8 +144,8 @@ pub fn pair_off(entries: &[Entry], keys: &Tree, states: &[u8], marks: &mut [u16]
     all_marked(states, entries.len(), marks)
 }
 
-// Whether the entries make a sound ledger, for up to PLACES of them, with BUCKETS buckets of their keys. In the end the marks make room for the ranks of the live
-// periods.
+// Whether the entries make a sound ledger, for up to PLACES of them, with BUCKETS buckets of their keys. In the end the ranks of the live
+// periods are put where the marks were.
 fn is_sound_with<const PLACES: usize, const BUCKETS: usize, const TREE: usize>(
     entries: &[Entry],
 ) -> bool

@@ -1,5 +1,4 @@
 -- What is looked for among entries by their keys.
---     wanted_only    a test that holds of entries with a key alone finds nothing at places of other keys
 --     named_none     a cancel without a Reference ID names no entry
 -- Assumes nothing.
 use mathlib.Core.Path.{◌≡◌, refl}
@@ -9,18 +8,11 @@ use Prim.Native.Nat.{ℕ}
 use lib.Dec.{eqb}
 use lib.ListN.{length, get_or}
 use Rattle.lists.proofs.Below.{none_is_end}
-use Rattle.lists.proofs.Selections.{and_right}
-use Rattle.buckets.specs.InsideChains.{Only}
 use Rattle.entries.specs.declared.Entry.{Entry}
 use Rattle.entries.specs.Entries.{entry_of}
 use Rattle.soundness.specs.Sound.{same_subject}
-use Rattle.sound_ledgers.specs.InsideKeys.{key_of, key_at}
 use Rattle.booking.specs.Booking.{is_live_or_held}
-use Rattle.used_entries.specs.InsideSearches.{names_as, unmarked_and, named_first}
-
-pub wanted_only : (test : Entry → Bool) (key : ℕ) → ((e : Entry) → test e ≡ true → key_of e.sender e.id ≡ key)
-    → (es : List Entry) (marks : List ℕ) (n : ℕ) → Only (unmarked_and test es marks) (key_at es) n key
-wanted_only test key keyed es marks n p h t = keyed (entry_of es p) (and_right (eqb (get_or marks p 0) 0) (test (entry_of es p)) t)
+use Rattle.used_entries.specs.InsideSearches.{names_as, named_first}
 
 -- ---- a cancel without a Reference ID
 pub named_none : (es : List Entry) (marks : List ℕ) (c : Entry) → named_first es marks 0 c ≡ length es

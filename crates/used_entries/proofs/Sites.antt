@@ -1,7 +1,7 @@
 -- Searches by place along a list of entries.
 --     first_entry     the first place at which a test of the entry there holds is the first entry's for which it holds
---     some_any        where no place is marked, there is such a place exactly where the test holds for some entry
---     overlap_only    what overlaps a period is of its site
+--     some_any        there is such a place exactly where the test holds for some entry
+--     overlap_site    what overlaps a period is of its site
 -- Assumes nothing.
 use mathlib.Core.Path.{◌≡◌, refl, sym, ap, ◌∙◌}
 use mathlib.Core.List.{List, [], ◌∷◌}
@@ -21,9 +21,7 @@ use Rattle.calendar.specs.Periods.{shares_day}
 use Rattle.entries.specs.declared.Entry.{Entry}
 use Rattle.entries.specs.Entries.{entry_of, period}
 use Rattle.soundness.specs.Sound.{is_live_period}
-use Rattle.buckets.specs.InsideChains.{Only}
-use Rattle.used_entries.specs.InsideSearches.{unmarked_and}
-use Rattle.used_entries.specs.InsideSited.{site_in, overlaps_entry}
+use Rattle.used_entries.specs.InsideSited.{overlaps_entry}
 
 module _ (f : Entry → Bool) where
   first_from_lem : (g : ℕ → Bool) (es : List Entry) (i : ℕ) → ((k : ℕ) → g (i + k) ≡ f (entry_of es k)) → first_from g i (length es) ≡ i + first_where f es
@@ -53,12 +51,11 @@ module _ (f : Entry → Bool) where
       go true more = lt-ltb 0 (suc (length es)) (omega arith)
       go false more = rw suc-suc more
 
-  pub some_any : (es : List Entry) (first : ℕ) → first ≡ first_below (unmarked_and f es []) (length es) → ltb first (length es) ≡ any f es
+  pub some_any : (es : List Entry) (first : ℕ) → first ≡ first_below (λ (p : ℕ). f (entry_of es p)) (length es) → ltb first (length es) ≡ any f es
   some_any es first e = ap (λ (m : ℕ). ltb m (length es)) (e ∙ first_entry es) ∙ some_where es
 
-pub overlap_only : (es : List Entry) (a : Entry) (n : ℕ) → Only (λ (p : ℕ). overlaps_entry a (entry_of es p)) (site_in es) n a.site
+pub overlap_site : (a e : Entry) → overlaps_entry a e ≡ true → e.site ≡ a.site
 unfolding overlaps_entry
-overlap_only es a n p h t =
-    let e = entry_of es p in
+overlap_site a e t =
     let live_there = ((both_of (is_live_period e && eqb e.site a.site) (shares_day (period e) (period a))).0 t).0 in
     eqb-true _ _ ((both_of (is_live_period e) (eqb e.site a.site)).0 live_there).1

@@ -5,9 +5,9 @@
 
 ghost use Rattle.std.specs.Prelude.{◌≡◌, Bool, true, ℕ, length, get_or, ◌&&◌, eqb};
 ghost use Rattle.entries.specs.declared.Entry.{Entry};
-ghost use Rattle.sound_ledgers.specs.InsideKeys.{key_of};
 ghost use Rattle.lists.specs.First.{first_where};
-ghost use Rattle.buckets.specs.InsideChains.{ChainRoom};
+ghost use Rattle.buckets.specs.InsideChains.{ChainRoom, Chained};
+ghost use Rattle.entries.specs.Entries.{entry_of};
 ghost use Rattle.used_entries.specs.InsideSited.{BySite, overlaps_entry};
 ghost use Rattle.lists.specs.Below.{first_below};
 ghost use Rattle.lists.specs.Selections.{any};
@@ -17,15 +17,26 @@ ghost use Rattle.used_entries.specs.InsideSearches.{unmarked_and, named_first};
 
 use entries::Entry;
 
+// Puts the used entries into chains by what `value_of` reads of each. `value` says what that is.
+fn index<F: Fn(Entry) -> u64>(entries: &[Entry], heads: &mut [u16], links: &mut [u16], value_of: F)
+    ghost value: { Entry → ℕ }
+    requires room_for { ChainRoom (length entries.now) heads.old links.old }
+    requires by_index { (b : ℕ) → get_or heads.old b 0 ≡ 0 }
+    requires reads { F.IsAlwaysCallable value_of × ((e : Entry) → (x : ℕ) → F.post value_of e x → x ≡ value e) }
+    ensures { Chained (λ p. value (entry_of entries.now p)) (length entries.now) heads.new links.new }
+{
+    for (i, e) in entries.iter().enumerate() {
+        buckets::push(value_of(*e), i, heads, links);
+    }
+}
+
 // Puts the used entries into the chains of their sites, whatever they are: what isn't a live period fails the test itself.
 pub fn index_sites(entries: &[Entry], heads: &mut [u16], links: &mut [u16])
     requires room_for { ChainRoom (length entries.now) heads.old links.old }
     requires by_index { (b : ℕ) → get_or heads.old b 0 ≡ 0 }
     ensures { BySite entries.now heads.new links.new }
 {
-    for (i, e) in entries.iter().enumerate() {
-        buckets::push(e.site, i, heads, links);
-    }
+    index(entries, heads, links, |e| e.site);
 }
 
 // Whether e is a live period of a's site that shares a day with it.
@@ -44,20 +55,40 @@ fn overlaps(a: Entry, e: Entry) -> bool
     p.shares_day(q)
 }
 
-// The place of the first entry that overlaps a, or the used count. A walk of a chain, as in `first_wanted`: an iterator would need a law and an invariant of its own.
-pub fn first_overlap(entries: &[Entry], heads: &[u16], links: &[u16], a: Entry) -> usize
-    requires { BySite entries.now heads.now links.now }
-    ensures { result ≡ first_where (overlaps_entry a) entries.now }
+// The first place that isn't marked and whose entry is wanted, or the used count: a walk of the chain of `sought`, for which an iterator would need a law and an
+// invariant of its own. `said.0` is what the chains are made by, and `said.1` what is wanted, all of it having the value `sought`.
+fn first_in_chain<F: Fn(Entry) -> bool>(
+    entries: &[Entry],
+    heads: &[u16],
+    links: &[u16],
+    marks: &[u8],
+    sought: u64,
+    is_wanted: F,
+) -> usize
+    ghost said: { (Entry → ℕ) × (Entry → Bool) }
+    requires chained { Chained (λ p. said.0 (entry_of entries.now p)) (length entries.now) heads.now links.now }
+    requires only { (e : Entry) → said.1 e ≡ true → said.0 e ≡ sought }
+    requires asks { F.IsAlwaysCallable is_wanted × ((e : Entry) → (b : Bool) → F.post is_wanted e b → b ≡ said.1 e) }
+    ensures { result ≡ first_below (unmarked_and said.1 entries.now marks.now) (length entries.now) }
 {
     let mut first = entries.len();
-    let mut at = buckets::head(heads, a.site);
+    let mut at = buckets::head(heads, sought);
     while let Some(place) = at {
-        if overlaps(a, entries[place]) {
+        if is_unmarked(marks, place) && is_wanted(entries[place]) {
             first = place;
         }
         at = buckets::next(links, place);
     }
     first
+}
+
+// The place of the first entry that overlaps a, or the used count.
+#[tactic(auto, using(crate::proofs::Sites::overlap_site), unfolding(crate::specs::InsideSited::overlaps_entry))]
+pub fn first_overlap(entries: &[Entry], heads: &[u16], links: &[u16], a: Entry) -> usize
+    requires { BySite entries.now heads.now links.now }
+    ensures { result ≡ first_where (overlaps_entry a) entries.now }
+{
+    first_in_chain(entries, heads, links, b"", a.site, move |e| overlaps(a, e))
 }
 
 // Puts the used entries into chains by their keys.
@@ -66,9 +97,12 @@ pub fn index_keys(entries: &[Entry], heads: &mut [u16], links: &mut [u16])
     requires by_index { (b : ℕ) → get_or heads.old b 0 ≡ 0 }
     ensures { ByKey entries.now heads.new links.new }
 {
-    for (i, e) in entries.iter().enumerate() {
-        buckets::push(sound_ledgers::key(e.sender, e.id), i, heads, links);
-    }
+    index(
+        entries,
+        heads,
+        links,
+        |e| sound_ledgers::key(e.sender, e.id),
+    );
 }
 
 // Whether a place isn't marked. A place past the marks isn't.
@@ -88,30 +122,14 @@ pub struct KeyChains<'a> {
 }
 
 impl<'a> KeyChains<'a> {
-    // The first place that isn't marked and whose entry is wanted, or the used count. `test` says what is wanted, and all of it has the key.
-    fn first_wanted<F: Fn(Entry) -> bool>(&self, marks: &[u8], key: u64, is_wanted: F) -> usize
-        ghost test: { Entry → Bool }
-        requires keyed { (e : Entry) → test e ≡ true → key_of e.sender e.id ≡ key }
-        requires asks { F.IsAlwaysCallable is_wanted × ((e : Entry) → (b : Bool) → F.post is_wanted e b → b ≡ test e) }
-        ensures { result ≡ first_below (unmarked_and test self.now.entries.now marks.now) (length self.now.entries.now) }
-    {
-        let mut best = self.entries.len();
-        let mut at = buckets::head(self.heads, key);
-        while let Some(place) = at {
-            if is_unmarked(marks, place) && is_wanted(self.entries[place]) {
-                best = place;
-            }
-            at = buckets::next(self.links, place);
-        }
-        best
-    }
-
     // Whether an entry with a sender and a Record ID is stored.
     pub fn is_stored(&self, sender: u64, id: u64) -> bool
         ensures { result ≡ is_stored self.now.entries.now sender id }
     {
         let key = sound_ledgers::key(sender, id);
-        let first = self.first_wanted(b"", key, |e| (e.sender == sender) & (e.id == id));
+        let first = first_in_chain(self.entries, self.heads, self.links, b"", key, |e| {
+            (e.sender == sender) & (e.id == id)
+        });
         first < self.entries.len()
     }
 
@@ -120,7 +138,7 @@ impl<'a> KeyChains<'a> {
         ensures { result ≡ any (λ e. eqb e.kind 1 && eqb e.sender sender && eqb e.id id) self.now.entries.now }
     {
         let key = sound_ledgers::key(sender, id);
-        let first = self.first_wanted(b"", key, |e| {
+        let first = first_in_chain(self.entries, self.heads, self.links, b"", key, |e| {
             (e.kind == entries::FILE) & (e.sender == sender) & (e.id == id)
         });
         first < self.entries.len()
@@ -135,7 +153,7 @@ impl<'a> KeyChains<'a> {
         }
         let id = reference - 1;
         let key = sound_ledgers::key(c.sender, id);
-        self.first_wanted(marks, key, |e| {
+        first_in_chain(self.entries, self.heads, self.links, marks, key, |e| {
             ((e.state == entries::LIVE) | (e.state == entries::HELD))
                 & (id == e.id)
                 & soundness::has_same_subject(c, e)

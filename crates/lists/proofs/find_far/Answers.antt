@@ -6,7 +6,6 @@ use lib.ListN.{drop}
 use Rattle.lists.specs.First.{first_where, is_byte}
 use Rattle.lists.proofs.Parts.{part_rest}
 use Rattle.lists.proofs.First.{Passed, passed_twice, passed_rest, first_le}
-use borrow.Author.Rules.{rules}
 use native.Mathlib.Omega.{arith}
 use Rattle.lists.proofs.find_far.Goals as goal
 

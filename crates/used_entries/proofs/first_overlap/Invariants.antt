@@ -1,21 +1,7 @@
--- `used_entries::first_overlap` meets its contract: a walk along the chain of the site that keeps the last place that it finds.
+-- `used_entries::first_overlap` meets its contract: the chains that its walk reads, and the test that it asks.
 -- Assumes nothing.
-use mathlib.Core.List.{List}
-use mathlib.Core.Bool.{Bool}
-use Prim.Native.Nat.{ℕ}
-use lib.ListN.{length}
-use Rattle.entries.specs.declared.Entry.{Entry}
-use Rattle.entries.specs.Entries.{entry_of}
-use Rattle.buckets.specs.InsideChains.{link_of, Walked}
-use Rattle.used_entries.specs.InsideSited.{site_in, overlaps_entry}
+use Rattle.used_entries.specs.InsideSited.{overlaps_entry}
 use Rattle.used_entries.proofs.first_overlap.Given as goal
 
--- the test that the walk makes
-abbrev pub meets : Entry → List Entry → ℕ → Bool
-meets a es p = overlaps_entry a (entry_of es p)
-
-abbrev pub invariant-loop-at : goal.invariant-loop-at
-invariant-loop-at l = Walked (meets l.a l.entries) (length l.heads) (site_in l.entries) (length l.entries) l.a.site (link_of l.at) l.first
-
-abbrev pub decreases-loop-at : goal.decreases-loop-at
-decreases-loop-at l = link_of l.at
+abbrev pub ghost-first_in_chain : goal.ghost-first_in_chain
+ghost-first_in_chain a = ((λ e. e.site), (λ e. overlaps_entry a.is_wanted.0 e))

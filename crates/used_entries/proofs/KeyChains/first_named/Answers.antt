@@ -12,4 +12,4 @@ returns-then-reference-eq0 c = sym (ap (λ (r : ℕ). named_first c.args.self.no
 
 pub returns : goal.returns
 unfolding named_first names_as
-returns c = simp (ne_eqb c.args.reference 0 c.if-reference-eq0.false) c.first_wanted.ensures
+returns c = simp (ne_eqb c.args.reference 0 c.if-reference-eq0.false) c.first_in_chain.ensures

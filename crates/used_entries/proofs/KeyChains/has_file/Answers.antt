@@ -4,4 +4,4 @@ use Rattle.used_entries.proofs.Sites.{some_any}
 use Rattle.used_entries.proofs.KeyChains.has_file.Goals as goal
 
 pub returns : goal.returns
-returns c = some_any _ _ _ c.first_wanted-first.ensures
+returns c = some_any _ _ _ c.first_in_chain-first.ensures

@@ -1,7 +1,8 @@
--- `used_entries::KeyChains::has_file` meets its contract: the test that its search asks.
+-- `used_entries::KeyChains::has_file` meets its contract: the chains that its search reads, and the test that it asks.
 -- Assumes nothing.
 use Rattle.std.proofs.Common.{◌&&◌, eqb}
+use Rattle.sound_ledgers.specs.InsideKeys.{key_of}
 use Rattle.used_entries.proofs.KeyChains.has_file.Given as goal
 
-abbrev pub ghost-first_wanted : goal.ghost-first_wanted
-ghost-first_wanted a = λ e. eqb e.kind 1 && eqb e.sender a.is_wanted.0.now && eqb e.id a.is_wanted.1.now
+abbrev pub ghost-first_in_chain : goal.ghost-first_in_chain
+ghost-first_in_chain a = ((λ e. key_of e.sender e.id), (λ e. eqb e.kind 1 && eqb e.sender a.is_wanted.0.now && eqb e.id a.is_wanted.1.now))

@@ -6,4 +6,4 @@ use Rattle.used_entries.proofs.KeyChains.is_stored.Goals as goal
 
 pub returns : goal.returns
 unfolding is_stored
-returns c = some_any _ _ _ c.first_wanted-first.ensures
+returns c = some_any _ _ _ c.first_in_chain-first.ensures
