@@ -3,7 +3,7 @@
 
 #![tactic(auto)]
 
-ghost use Rattle.std.specs.Prelude.{◌≡◌, true, false, cond, ℕ, ◌≤◌, ◌<◌, eqb, length, set, replicate};
+ghost use Rattle.std.specs.Prelude.{◌≡◌, true, false, cond, ℕ, ◌≤◌, ◌<◌, ◌&&◌, not, eqb, length, set, get_or, replicate};
 ghost use Rattle.lists.specs.Written.{written};
 ghost use Rattle.records.specs.Text.{lines_of};
 ghost use Rattle.records.specs.InsidePlacedLines.{part};
@@ -200,6 +200,17 @@ fn read_next(code: usize, file: &[u8], a: usize, e: usize) -> Option<Reading>
     readings::read_field(code, &file[a..e])
 }
 
+// Whether the fields that are read are filled as they must be, with one more whose mark stands at a place: a marked field must not be empty.
+fn still_filled(filled: bool, marks: &[bool; 171], place: usize, len: usize) -> bool
+    requires { place < 171 }
+    ensures { result ≡ (filled && not (eqb len 0 && get_or marks.now place false)) }
+{
+    if len == 0 {
+        return filled & !marks[place];
+    }
+    filled
+}
+
 // Reads each of a file's lines, into the columns, up to the first that fails test 2 or 3: `stopped` of the answer.
 pub fn read_lines(
     lines: &FoundLines,
@@ -238,9 +249,7 @@ pub fn read_lines(
                 break 'records;
             };
             let len = field.len;
-            if len == 0 {
-                filled = filled & !marks[row + k];
-            }
+            filled = still_filled(filled, marks, row + k, len);
             record.starts[k] = a;
             record.ends[k] = a + len;
             numbers[k + 1] = field.number;

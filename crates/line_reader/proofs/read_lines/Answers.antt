@@ -22,10 +22,9 @@ use Rattle.readings.specs.InsideReadings.{FieldRead}
 use Rattle.line_reader.proofs.Unread.{unread_count, first_none}
 use Rattle.line_reader.proofs.Lines.{LinesTo, lines_none, lines_more, lines_end, stops, line_stored}
 use Rattle.line_reader.proofs.Heads.{count_least}
-use Rattle.line_reader.proofs.Filled.{filled_more, mark_field, flag_empty, flag_some}
+use Rattle.line_reader.proofs.Filled.{filled_more, mark_field}
 use Rattle.line_reader.proofs.Fields.{end_inside, field_there, field_is, code_narrow, code_type}
 use Rattle.line_reader.proofs.FieldLoop.{LineRead, fields_start, fields_more, unread_next, fields_end}
-use Rattle.line_reader.proofs.read_lines.Goals.{else-len-eq0, then-len-eq0}
 use Rattle.line_reader.proofs.read_lines.Goals as goal
 
 module _ {file : List ℕ} {n : ℕ} {starts ends : List ℕ} (placed : Placed file n starts ends (lines_of file)) {i : ℕ} (here : i < n) where
@@ -77,11 +76,11 @@ bounds-codes-row c = omega (arith, count_most, c.in-Some.ensures.known)
 pub read_next-requires : goal.read_next-requires
 read_next-requires c = (code_narrow _ _ c.in-Some.ensures.known (omega (arith, count_most, c.in-Some.ensures.known)) c.codes-codes.ensures, (place c.args.lines.now.placed c.records-test.true).high)
 
-pub overflow_add-filled : goal.overflow_add-filled
-overflow_add-filled c = omega (arith, count_most, c.in-Some.ensures.known)
+pub overflow_add-row-in-loop-k : goal.overflow_add-row-in-loop-k
+overflow_add-row-in-loop-k c = omega (arith, count_most, c.in-Some.ensures.known)
 
-pub bounds-marks-row : goal.bounds-marks-row
-bounds-marks-row c = omega (arith, count_most, c.in-Some.ensures.known)
+pub still_filled-filled-requires : goal.still_filled-filled-requires
+still_filled-filled-requires c = omega (arith, count_most, c.in-Some.ensures.known)
 
 pub offset_bounds-record-k : goal.offset_bounds-record-k
 offset_bounds-record-k c = omega (arith, count_most, c.in-Some.ensures.known)
@@ -122,7 +121,7 @@ loop-k-preserved c =
     let long = read.ends ∙ sym (ap length (field_is c.loop-k.invariant.read low high) ∙ field_length _) in
     let flag =
     filled_more type _ c.loop-k.k c.loop-k.invariant.flag (mark_field type _ c.marks-marks.ensures known c.loop-k.k (omega arith) small long)
-    (elim c.if-len-eq0.branch [ then-len-eq0 w ↦ flag_empty c.loop-k.filled mark c.in-Some-read_next.field.len w.if-len-eq0.true w.filled-is | else-len-eq0 w ↦ flag_some c.loop-k.filled mark c.in-Some-read_next.field.len w.if-len-eq0.false w.filled-is ]) in
+    c.still_filled-filled.ensures in
     fields_more c.loop-k.invariant low high small (code_type type c.loop-k.k known small c.codes-codes.ensures) read flag
 
 pub records-preserved : goal.records-preserved
