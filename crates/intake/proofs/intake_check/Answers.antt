@@ -11,7 +11,7 @@ small : (retailer : ℕ) (distributors file : List ℕ) (o : Outcome) → o ≡ 
 small retailer distributors file o e = subst (λ (x : Outcome). (x.number ≤ 104) × (x.line ≤ 4096)) (sym e) (check_small retailer distributors file)
 
 pub overflow_mul-result : goal.overflow_mul-result
-overflow_mul-result c = omega (arith, small _ _ _ _ c.in-Err.ensures)
+overflow_mul-result c = omega (arith, small _ _ _ _ c.in-Err.ensures.value)
 
 pub overflow_add-result : goal.overflow_add-result
-overflow_add-result c = omega (arith, small _ _ _ _ c.in-Err.ensures)
+overflow_add-result c = omega (arith, small _ _ _ _ c.in-Err.ensures.value)
