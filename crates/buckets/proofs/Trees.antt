@@ -11,12 +11,13 @@
 -- Assumes nothing.
 use mathlib.Core.Path.{◌≡◌, refl, sym, ◌∙◌, ap, subst}
 use mathlib.Core.List.{List}
-use mathlib.Core.Logic.{∥∥₁_elim, ∥∥₁_map}
+use mathlib.Core.Logic.{∥∥₁_elim}
 use mathlib.Core.Bool.{Bool, true, false, cond}
 use Prim.Native.Nat.{ℕ, zero, suc, ◌+◌, ◌-◌, ◌*◌, ◌/◌, ◌%◌, ◌≤◌, ◌<◌}
 use native.Mathlib.Omega.{arith}
 use native.Mathlib.Decide.{dec_lt}
 use borrow.Author.Count.{below_more}
+use denote.Struct.Props.{props}
 use borrow.Author.Tests.{eq-eqb, ne_eqb, eqb-true, eqb-false, lt-ltb, le-ltb}
 use lib.Dec.{eqb}
 use lib.ListN.{length, length-set, get_or, set}
@@ -69,7 +70,7 @@ module _ (size : ℕ) (values : List ℕ) where
             let p = first_place values m x in
             let q : get_or values p 0 ≡ x = eqb-true _ x (first_holds (here values x) m h) in
             let leads : Leads values p = subst (λ (y : ℕ). first_place values p y ≡ p) (sym q) (none_is_end (here values x) p (first_least (here values x) m)) in
-            absurd (∥∥₁_elim (I.found p h leads) (λ z. absurd z) (λ f. same_end p q (subst (λ (y : ℕ). Found size values tree y p) q f) none))
+            absurd (same_end p q (subst (λ (y : ℕ). Found size values tree y p) q (I.found p h leads)) none)
 
   -- ---- one place more, put into the slot s, which was empty
   module _ (tree : List ℕ) (s v : ℕ) (empty : get_or tree s 0 ≡ 0) where
@@ -104,7 +105,7 @@ module _ (size : ℕ) (values : List ℕ) where
       found = λ p h l. go p h l (dec_lt p m);
     }
       where
-        go : (p : ℕ) → p < m + 1 → Leads values p → Dec (p < m) → ∥ Found size values tree (get_or values p 0) p ∥₁
+        go : (p : ℕ) → p < m + 1 → Leads values p → Dec (p < m) → Found size values tree (get_or values p 0) p
         go p h l (yes r) = I.found p r l
         go p h l (no r) = let z : p ≡ m = omega (arith, r) in absurd (follows (subst (λ (q : ℕ). Leads values q) z l))
 
@@ -147,16 +148,16 @@ module _ (size : ℕ) (values : List ℕ) where
               let q = I.rising p b (omega (arith, z, h)) l in
               omega (arith, z, q)
 
-          found : (p : ℕ) → p < m + 1 → Leads values p → Dec (p < m) → ∥ Found size values (set tree s (m + 1)) (get_or values p 0) p ∥₁
-          found p h l (yes r) = ∥∥₁_map (I.found p r l) (found_kept tree s (m + 1) none (get_or values p 0) p)
+          found : (p : ℕ) → p < m + 1 → Leads values p → Dec (p < m) → Found size values (set tree s (m + 1)) (get_or values p 0) p
+          found p h l (yes r) = found_kept tree s (m + 1) none (get_or values p 0) p (I.found p r l)
           found p h l (no r) =
               let z : p ≡ m = omega (arith, r) in
-              subst (λ (q : ℕ). ∥ Found size values (set tree s (m + 1)) (get_or values q 0) q ∥₁) (sym z)
-              ∣ record {
+              subst (λ (q : ℕ). Found size values (set tree s (m + 1)) (get_or values q 0) q) (sym z)
+              (record {
                 steps = n;
                 passed = passed_kept tree s (m + 1) none (get_or values m 0) n P;
                 here = ap (λ (k : ℕ). get_or (set tree s (m + 1)) k 0) (slot_kept tree s (m + 1) none (get_or values m 0) n P) ∙ at_slot;
-              } ∣₁
+              })
 
 -- ---- a search for x that has come to a slot, which holds `content`
 pub record Walked (size : ℕ) (values : List ℕ) (m : ℕ) (tree : List ℕ) (x slot content rest : ℕ) : Type 0 where
@@ -172,13 +173,13 @@ pub record Walked (size : ℕ) (values : List ℕ) (m : ℕ) (tree : List ℕ) (
 abbrev pub distance : ℕ → ℕ → ℕ
 distance m content = cond (eqb content 0) 0 (m + 1 - content)
 
-module _ (size : ℕ) (values : List ℕ) (m : ℕ) (tree : List ℕ) (I : Indexed size values m tree) (x : ℕ) where
+module _ (size : ℕ) (values : List ℕ) (m : ℕ) (tree : List ℕ) (I : ∥ Indexed size values m tree ∥₁) (x : ℕ) where
   pub content_few : (slot : ℕ) → get_or tree slot 0 ≤ m
   content_few slot = go (eqb (get_or tree slot 0) 0) refl
     where
       go : (b : Bool) → eqb (get_or tree slot 0) 0 ≡ b → get_or tree slot 0 ≤ m
       go true e = omega (arith, eqb-true (get_or tree slot 0) 0 e)
-      go false e = (I.stored slot (let n = eqb-false (get_or tree slot 0) 0 e in omega (arith, n))).0
+      go false e = ∥∥₁_elim I (Prim.hlevel props) (λ J. (J.stored slot (let n = eqb-false (get_or tree slot 0) 0 e in omega (arith, n))).0)
 
   pub walk_start : (slot : ℕ) → slot ≡ bucket_of size x → slot < size → Walked size values m tree x slot (get_or tree slot 0) x
   unfolding slot_at rest_at
@@ -217,7 +218,8 @@ module _ (size : ℕ) (values : List ℕ) (m : ℕ) (tree : List ℕ) (I : Index
         go true q = omega (arith, W.few)
         go false q =
             let some = eqb-false (get_or tree next 0) 0 q in
-            let up = I.rising (content - 1) (rest % 2) (subst (λ (k : ℕ). 0 < get_or tree k 0) e (let z : 0 < get_or tree next 0 = omega (arith, some) in z)) (omega arith) in
+            let more : 0 < get_or tree (size + 2 * (content - 1) + rest % 2) 0 = subst (λ (k : ℕ). 0 < get_or tree k 0) e (let z : 0 < get_or tree next 0 = omega (arith, some) in z) in
+            let up : content - 1 + 1 < get_or tree (size + 2 * (content - 1) + rest % 2) 0 = ∥∥₁_elim I (Prim.hlevel props) (λ J. J.rising (content - 1) (rest % 2) more (omega arith)) in
             let same : get_or tree next 0 ≡ get_or tree (size + 2 * (content - 1) + rest % 2) 0 = ap (λ (k : ℕ). get_or tree k 0) e in
             omega (arith, up, same, n, content_few next)
 
@@ -228,7 +230,7 @@ module _ (size : ℕ) (values : List ℕ) (m : ℕ) (tree : List ℕ) (I : Index
       slot = p ∙ W.at;
       content = q ∙ W.holds ∙ ap (λ (k : ℕ). get_or tree k 0) (sym p);
       below = omega (arith, p, W.below);
-      first = λ _. search_found size values m tree I x W.steps W.passed (some_content n) (ap (λ (k : ℕ). get_or values (k - 1) 0) (sym content_is) ∙ e) ∙ ap (λ (k : ℕ). k - 1) (sym content_is ∙ sym q);
+      first = λ _. ∥∥₁_elim I (Prim.hlevel props) (λ J. search_found size values m tree J x W.steps W.passed (some_content n) (ap (λ (k : ℕ). get_or values (k - 1) 0) (sym content_is) ∙ e) ∙ ap (λ (k : ℕ). k - 1) (sym content_is ∙ sym q));
       none = λ z. absurd (n (sym q ∙ z));
     }
 
@@ -240,13 +242,13 @@ module _ (size : ℕ) (values : List ℕ) (m : ℕ) (tree : List ℕ) (I : Index
       content = q ∙ W.holds ∙ ap (λ (k : ℕ). get_or tree k 0) (sym p);
       below = omega (arith, p, W.below);
       first = λ n. absurd (n (q ∙ e));
-      none = λ _. search_ended size values m tree I x W.steps W.passed (sym content_is ∙ e);
+      none = λ _. ∥∥₁_elim I (Prim.hlevel props) (λ J. search_ended size values m tree J x W.steps W.passed (sym content_is ∙ e));
     }
 
 -- ---- the place m, after its value was searched for
 module _ (size : ℕ) (values : List ℕ) (m : ℕ) (tree : List ℕ) (I : Indexed size values m tree) (r : Spot) (S : Searched size values m tree (get_or values m 0) r) where
   pub keep_place : (r.content ≡ 0 → ⊥) → Indexed size values (m + 1) tree
-  keep_place n = indexed_kept size values m tree I (λ leads. omega (arith, leads, S.first n, n, S.content, content_few size values m tree I 0 r.slot))
+  keep_place n = indexed_kept size values m tree I (λ leads. omega (arith, leads, S.first n, n, S.content, content_few size values m tree ∣ I ∣₁ 0 r.slot))
 
   pub put_place : r.content ≡ 0 → r.slot < length tree → Indexed size values (m + 1) (set tree r.slot (m + 1))
   put_place e inside =

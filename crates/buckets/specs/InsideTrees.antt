@@ -34,7 +34,7 @@ pub record Found (size : ℕ) (values tree : List ℕ) (x p : ℕ) : Type 0 wher
 pub record Indexed (size : ℕ) (values : List ℕ) (m : ℕ) (tree : List ℕ) : Type 0 where
   pub stored : (s : ℕ) → 0 < get_or tree s 0 → (get_or tree s 0 ≤ m) × Leads values (get_or tree s 0 - 1)
   pub rising : (p b : ℕ) → 0 < get_or tree (size + 2 * p + b) 0 → b < 2 → p + 1 < get_or tree (size + 2 * p + b) 0
-  pub found : (p : ℕ) → p < m → Leads values p → ∥ Found size values tree (get_or values p 0) p ∥₁
+  pub found : (p : ℕ) → p < m → Leads values p → Found size values tree (get_or values p 0) p
 
 -- what a search for x says
 pub record Searched (size : ℕ) (values : List ℕ) (m : ℕ) (tree : List ℕ) (x : ℕ) (r : Spot) : Type 0 where

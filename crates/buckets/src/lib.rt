@@ -30,7 +30,7 @@ pub struct Spot {
 // tell it from the others. A `while`: it walks from slot to slot, and an iterator would need a law and an invariant of its own.
 fn search(values: &[u64], m: usize, size: usize, slots: &[u16], value: u64) -> Spot
     requires room { TreeRoom size m (length slots.now) × (m ≤ length values.now) }
-    requires indexed { Indexed size values.now m slots.now }
+    requires indexed { ∥ Indexed size values.now m slots.now ∥₁ }
     ensures { Searched size values.now m slots.now value result }
 {
     let mut slot = bucket(value, size);
@@ -89,14 +89,14 @@ pub fn first_repeated(values: &[u64], size: usize, slots: &mut [u16]) -> usize
     n
 }
 
-// All places of the values, in a tree of so many buckets.
+// All places of the values, in a tree of so many buckets. That they stand there is kept without how a search comes to each: a struct keeps only what holds in one way.
 #[derive(Clone, Copy)]
 pub struct Tree<'a> {
     pub values: &'a [u64],
     pub size: usize,
     pub slots: &'a [u16],
     pub ghost room: { TreeRoom size (length values.now) (length slots.now) },
-    pub ghost indexed: { Indexed size values.now (length values.now) slots.now },
+    pub ghost indexed: { ∥ Indexed size values.now (length values.now) slots.now ∥₁ },
 }
 
 impl<'a> Tree<'a> {

@@ -114,7 +114,7 @@ const FIRST_DAYS: [u64; 1200] = [
 ];
 
 // The table, where it stands: what asks it copies nothing.
-fn table() -> &'static [u64; 1200]
+pub fn first_days() -> &'static [u64; 1200]
     ensures { result.now ≡ first_days }
 {
     &FIRST_DAYS
@@ -125,7 +125,7 @@ pub fn first_day(month: usize) -> u64
     requires { month < 1200 }
     ensures { (result ≡ first_day month) × (result ≤ 36494) }
 {
-    table()[month]
+    first_days()[month]
 }
 
 fn leap(year: usize) -> bool

@@ -1,9 +1,13 @@
 -- The original periods as spans of numbers, and that no two of a site share a day. A day stands as itself and one; 0 says that the field is empty.
 -- Assumes nothing.
-use Rattle.std.specs.Prelude.{◌≡◌, List, true, ℕ, ◌≤◌, ◌<◌}
+use Rattle.std.specs.Prelude.{◌≡◌, List, [], Bool, true, ℕ, ◌≤◌, ◌<◌}
 use Rattle.apart.specs.InsideGathered.{day_number, Gathering}
 use Rattle.tables.specs.Groups.{at}
-use Rattle.periods.specs.Periods.{PeriodColumns, is_original}
+use Rattle.periods.specs.Periods.{PeriodColumns, period_columns, is_original}
+
+-- the record at i is an original period, by the two columns that say so: an empty list stands for one that is not read
+abbrev pub original_at : List ℕ → List ℕ → ℕ → Bool
+original_at types cancels = is_original (period_columns types [] [] [] cancels)
 
 -- a day of a site as one number
 abbrev pub day_at : List ℕ → List ℕ → ℕ → ℕ

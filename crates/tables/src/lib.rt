@@ -78,7 +78,7 @@ pub fn type_named(s: &[u8]) -> u64
 }
 
 // The table of which type may follow which, where it stands.
-fn follow_table() -> &'static [[bool; 9]; 9]
+pub fn follow_table() -> &'static [[bool; 9]; 9]
     ensures { result.now ≡ follow_table }
 {
     &FOLLOWS

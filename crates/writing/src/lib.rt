@@ -26,12 +26,14 @@ pub fn write_digits(out: &mut [u8], at: usize, width: usize, n: u64)
     }
 }
 
-// Bytes as they are.
+// Bytes as they are. A loop: `copy_from_slice` would have the archive ask the C library for `memmove`, which it needs nowhere else.
 pub fn write_bytes(out: &mut [u8], at: usize, bytes: &[u8])
     requires { at + length bytes.now ≤ length out.old }
     ensures { out.new ≡ written_at out.old at bytes.now }
 {
-    out[at..at + bytes.len()].copy_from_slice(bytes);
+    for k in (0..bytes.len()).rev() {
+        out[at + k] = bytes[k];
+    }
 }
 
 // How many digits n has.

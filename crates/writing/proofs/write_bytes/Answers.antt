@@ -1,18 +1,23 @@
--- `writing::write_bytes` meets its contract: the part of the run that is written is as long as the bytes.
+-- `writing::write_bytes` meets its contract. The loop's invariant: what was to be written on the run as it was is what is left to be written on the
+-- run as it is.
 -- Assumes nothing.
-use mathlib.Core.Path.{◌≡◌}
-use mathlib.Core.List.{List}
-use Prim.Native.Nat.{ℕ, ◌+◌, ◌-◌}
 use native.Mathlib.Omega.{arith}
-use lib.ListN.{length}
-use lib.Seq.{drop-drop}
-use borrow.Rule.Slice.PartMut.{put_mid}
+use mathlib.Core.Path.{refl, sym, ap, ◌∙◌}
+use lib.Seq.{take-length}
+use lib.ListN.{length-set}
 use Rattle.writing.specs.InsideWriting.{written_at}
+use Rattle.writing.proofs.Loops.{bytes_back, bytes_end}
 use Rattle.writing.proofs.write_bytes.Goals as goal
 
-part_written : (out part bytes : List ℕ) (at n : ℕ) → n ≡ length bytes → part ≡ bytes → put_mid at n out part ≡ written_at out at bytes
-unfolding written_at
-part_written out part bytes at n size same = rw (size, same, drop-drop)
+pub loop-k-init : goal.loop-k-init
+loop-k-init c = (refl, sym (ap (written_at c.args.out.now c.args.at) (take-length c.args.bytes.now)))
+
+pub loop-k-preserved : goal.loop-k-preserved
+loop-k-preserved c = (
+  simp length-set c.loop-k.invariant.0,
+  c.loop-k.invariant.1 ∙ bytes_back c.loop-k.out c.args.at c.args.bytes.now c.loop-k.k (omega arith) (omega arith) (omega arith),
+)
 
 pub returns : goal.returns
-returns c = part_written c.args.out.now c.copy_from_slice.new.self c.args.bytes.now c.args.at (c.args.at + length c.args.bytes.now - c.args.at) (omega arith) c.copy_from_slice.ensures.after
+returns c =
+    sym (c.loop-k.invariant.1 ∙ bytes_end c.loop-k.out c.args.at c.args.bytes.now c.loop-k.k (omega arith))
